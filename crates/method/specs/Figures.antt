@@ -1,0 +1,157 @@
+-- "Figures on each side of the line" (paper 01): every starred figure, in one table under one claim. Assumes nothing.
+use mathlib.Core.Path.{_≡_, refl}
+use mathlib.Core.Bool.{Bool, true, false}
+use mathlib.Core.List.{List, [], _∷_, _++_, map}
+use Prim.Native.Nat.{ℕ}
+use lib.IntN.{ℤ, pos, negsuc, negℤ}
+use Rattle.method.specs.Types.{Up, Down, Steps, Millionths, Key, Contract, Line, LineAnswer, Row, steps, millionths}
+use Rattle.method.specs.Wire.{word, signed, bit}
+use Rattle.method.specs.Refusals.{table-number, event-number}
+use Rattle.method.specs.Growth.{between-keys, rate-from, rate-by-keys, rate-at, exponent, term, series, up-factor, down-factor, factors-of}
+use Rattle.method.specs.Bounds.{factor, interest, bound}
+use Rattle.method.specs.Opening.{
+  rates-good,
+  fields-good,
+  known,
+  id-good,
+  normal-price,
+  half-width,
+  market-of,
+  half-move,
+  terms-of,
+  corridor-half,
+  corridor,
+  inside-bounds,
+  floored,
+  fresh-line,
+  opened-with,
+  open-line,
+}
+use Rattle.method.specs.Table.{
+  header-of,
+  key-at,
+  contract-at,
+  keys-at,
+  contracts-at,
+  header-good,
+  laid-out,
+  key-good,
+  bad-key,
+  opening-state,
+  open-lines,
+  open-records,
+  opening,
+}
+use Rattle.method.specs.Pressure.{close, presses, judged, judge}
+use Rattle.method.specs.Shift.{moved, redrawn, moved-line, shift-line, shifted, after}
+use Rattle.method.specs.Event.{read-tick, read-quote, read, in-session, not-crossed, verdict, quoted-line, quoted, applied, next}
+use Rattle.method.specs.Search.{due-of, ahead, sooner, passed, earliest, in-time, next-due, serve, answer, run, finally}
+use Rattle.method.specs.Program.{rows-of, rows-of-all, closing-row, session-rows, pieces, rows-after, program, row-numbers}
+use Rattle.method.specs.Inputs.{sample, tick, empty, bid, printed, Figure}
+
+-- ---- inputs
+-- "Keys (30; 100,000), (90; 70,001)"
+abbrev two-keys : List Key
+two-keys = record { days = 30; rate = millionths 100_000 } ∷ record { days = 90; rate = millionths 70_001 } ∷ []
+
+-- a contract that its rates, spot and least price give the half-width 100 (or 30), with the exponent that the key gives it at its 365 days
+abbrev contract : ℤ → ℤ → ℕ → ℕ → ℕ → Contract
+contract price least rate width flags =
+    record {
+      price = steps price;
+      spot = steps price;
+      least = steps least;
+      rate1 = millionths rate;
+      rate2 = millionths rate;
+      rate3 = millionths rate;
+      width = millionths width;
+      days = 365;
+      id = 7;
+      flags = flags;
+    }
+
+abbrev key : ℕ → List Key
+key rate = record { days = 365; rate = millionths rate } ∷ []
+
+-- opened with shift share 500,000, as the first line
+abbrev line : ℕ → Contract → LineAnswer
+line rate c = open-line (millionths 500_000) (key rate) [] c
+
+-- "y 100,000,000" is rate 100,000 at 365 days
+abbrev thousand : ℕ → Contract
+thousand width = contract (pos 1_000) (pos 1) 100_000 width 0
+
+abbrev minus-ten : Contract
+minus-ten = contract (negsuc 9) (pos 1_000) 100_000 500_000 1
+
+abbrev thirty : Contract
+thirty = contract (pos 30) (pos 1) 1_000_000 900_000 0
+
+-- ---- what is read off an answer
+abbrev of-line : (Line → List ℤ) → LineAnswer → List ℤ
+of-line f (LineAnswer.Opened l) = f l
+of-line f (LineAnswer.Refused why) = pos (table-number why) ∷ []
+
+abbrev bounds : Line → List ℤ
+bounds l = bound Up (l .terms) (l .market) ∷ bound Down (l .terms) (l .market) ∷ []
+
+abbrev both-limits : Line → List ℤ
+both-limits l = l .limits .upper .0 ∷ l .limits .lower .0 ∷ []
+
+abbrev flag : Bool → ℤ
+flag true = pos 1
+flag false = pos 0
+
+-- half-move, and after one down shift: centre, half-width, lower bound, lower limit, frozen
+abbrev shifted-down : Line → List ℤ
+shifted-down l =
+    let n : Line = moved-line Down l in
+    l .terms .halfmove .0
+    ∷ n .market .centre .0 ∷ n .market .half1 .0 ∷ bound Down (n .terms) (n .market) ∷ n .limits .lower .0 ∷ flag (n .limits .frozen) ∷ []
+
+-- the raw lower limit, before it is held against its bound
+abbrev raw-lower : ℕ → Contract → List ℤ
+raw-lower rate c =
+    corridor (c .width) (terms-of (millionths 500_000) (exponent (rate-at (key rate) (c .days)) (c .days)) c) (market-of c) .lower .0 ∷ []
+
+-- ---- the table: what the paper prints, and what the definitions give
+abbrev figure : List ℤ → List ℤ → Figure
+figure printed computed = record { printed = printed; computed = computed }
+
+abbrev pub starred : List Figure
+starred =
+    -- "Keys (30; 100,000), (90; 70,001): days 31 gives 99,500, days 30 gives 100,000, days 10 gives 100,000, days 91 gives 70,001."
+    figure (map pos (99_500 ∷ 100_000 ∷ 100_000 ∷ 70_001 ∷ [])) (map pos (map (rate-at two-keys) (31 ∷ 30 ∷ 10 ∷ 91 ∷ [])))
+    -- "Rate 92,500, 45 days: y = 11,404,109."
+    ∷ figure (pos 11_404_109 ∷ []) (pos (exponent 92_500 45) ∷ [])
+    -- "Rate 100,000, 365 days: y = 100,000,000, up 1,105,170,916, down 904,837,419."
+    ∷ figure (map pos (100_000_000 ∷ 1_105_170_916 ∷ 904_837_419 ∷ []))
+    (map pos (exponent 100_000 365 ∷ up-factor 100_000_000 ∷ down-factor 100_000_000 ∷ []))
+    -- "y = 0: both 1,000,000,000."
+    ∷ figure (map pos (1_000_000_000 ∷ 1_000_000_000 ∷ [])) (map pos (up-factor 0 ∷ down-factor 0 ∷ []))
+    -- "P 1,000, half-width 100, y 100,000,000: interest bounds 1,216 and 814. Width share 500,000: limits 1,100 and 900."
+    ∷ figure (map pos (1_216 ∷ 814 ∷ [])) (of-line bounds (line 100_000 (thousand 500_000)))
+    ∷ figure (map pos (1_100 ∷ 900 ∷ [])) (of-line both-limits (line 100_000 (thousand 500_000)))
+    -- "Width share 1,000,000: lower 799, refused 9."
+    ∷ figure (pos 799 ∷ []) (raw-lower 100_000 (thousand 1_000_000))
+    ∷ figure (pos 9 ∷ []) (of-line both-limits (line 100_000 (thousand 1_000_000)))
+    -- "P -10, half-width 100, same y, negatives permitted: bounds 82 and -122; share 500,000 gives 41 and -61."
+    ∷ figure (pos 82 ∷ negsuc 121 ∷ []) (of-line bounds (line 100_000 minus-ten))
+    ∷ figure (pos 41 ∷ negsuc 60 ∷ []) (of-line both-limits (line 100_000 minus-ten))
+    -- "P 30, half-width 30, y 0, width share 900,000, shift share 500,000: limits 57 and 3, half-move 7. One down shift: centre 23, half-width
+    -- 37, lower bound -14, lower limit 1, frozen."
+    ∷ figure (map pos (57 ∷ 3 ∷ [])) (of-line both-limits (line 0 thirty))
+    ∷ figure (pos 7 ∷ pos 23 ∷ pos 37 ∷ negsuc 13 ∷ pos 1 ∷ pos 1 ∷ []) (of-line shifted-down (line 0 thirty))
+    -- The program. "Events: 10 bid 1046; 69 tick; 70 tick; 100 bid 1093; 200 empty; 210 bid 1150; 1000 tick. Output, whole": 70 U 7; 160 U 7;
+    -- 7 950 1150 900 1200.
+    ∷ figure
+    (map pos (1 ∷ 70 ∷ 0 ∷ 7 ∷ 0 ∷ 0 ∷ 1 ∷ 160 ∷ 0 ∷ 7 ∷ 0 ∷ 0 ∷ 4 ∷ 7 ∷ 950 ∷ 1_150 ∷ 900 ∷ 1_200 ∷ []))
+    (printed
+    (program
+    (sample 1_000 2 (7 ∷ []) (bid 10 7 1_046 (tick 69 (tick 70 (bid 100 7 1_093 (empty 200 7 (bid 210 7 1_150 (tick 1_000 []))))))))))
+    ∷ []
+
+-- Every starred figure is what the definitions give.
+pub starred-claim : map (λ f. f .computed) starred ≡ map (λ f. f .printed) starred
+unfolding word signed bit table-number event-number between-keys rate-from rate-by-keys rate-at exponent term series up-factor down-factor factors-of factor interest bound rates-good fields-good known id-good normal-price half-width market-of half-move terms-of corridor-half corridor inside-bounds floored fresh-line opened-with open-line header-of key-at contract-at keys-at contracts-at header-good laid-out key-good bad-key opening-state open-lines open-records opening close presses judged judge moved redrawn moved-line shift-line shifted after read-tick read-quote read in-session not-crossed verdict quoted-line quoted applied next due-of ahead sooner passed earliest in-time next-due serve answer run finally rows-of rows-of-all closing-row session-rows pieces rows-after program row-numbers
+starred-claim = refl

@@ -1,0 +1,16 @@
+pub mod Types
+pub mod Wire
+pub mod Refusals
+pub mod Growth
+pub mod Bounds
+pub mod Opening
+pub mod Table
+pub mod Pressure
+pub mod Shift
+pub mod Event
+pub mod CalledFor
+pub mod Search
+pub mod Program
+pub mod Inputs
+pub mod Figures
+pub mod Examples

@@ -1,0 +1,210 @@
+// The plain data of the method. No function runs here: specs/ says over these types what is right, and the crates above compute it.
+
+use numbers::Billionths;
+use numbers::Millionths;
+use numbers::Seconds;
+use numbers::Steps;
+
+// ---- the morning table
+
+pub struct Header {
+    pub edition: u32,
+    pub contracts: u32,
+    pub contractsat: u32,
+    pub keys: u32,
+    pub keysat: u32,
+    pub end: Seconds,
+    pub hold: Seconds,
+    pub most: u32,
+    pub near: Millionths,
+    pub shift: Millionths,
+}
+
+pub struct Key {
+    pub days: u32,
+    pub rate: Millionths,
+}
+
+// The ten fields of a contract, in the table's order.
+pub struct Contract {
+    pub price: Steps,
+    pub spot: Steps,
+    pub least: Steps,
+    pub rate1: Millionths,
+    pub rate2: Millionths,
+    pub rate3: Millionths,
+    pub width: Millionths,
+    pub days: u32,
+    pub id: u32,
+    pub flags: u32,
+}
+
+// ---- a line: five records, each changed by one kind of thing
+
+pub enum Side {
+    Up,
+    Down,
+}
+
+pub struct Factors {
+    pub up: Billionths,
+    pub down: Billionths,
+}
+
+// Fixed for the session. `below` says that the settlement price was negative.
+pub struct Terms {
+    pub id: u32,
+    pub flags: u32,
+    pub below: bool,
+    pub halfmove: Steps,
+    pub factors: Factors,
+}
+
+// Changed by every shift: the centre, and the half-width of each level.
+pub struct Market {
+    pub centre: Steps,
+    pub half1: Steps,
+    pub half2: Steps,
+    pub half3: Steps,
+}
+
+// Changed by the shifts of one side each.
+pub struct Limits {
+    pub upper: Steps,
+    pub lower: Steps,
+    pub frozen: bool,
+}
+
+pub enum Price {
+    Absent,
+    Given(Steps),
+}
+
+// Changed by the contract's quotes.
+pub struct Book {
+    pub bid: Price,
+    pub ask: Price,
+}
+
+// `Since` has the second at which pressure started.
+pub enum Hold {
+    Idle,
+    Since(Seconds),
+}
+
+// Changed wherever pressure starts or ends.
+pub struct Holds {
+    pub up: Hold,
+    pub down: Hold,
+}
+
+pub struct Line {
+    pub terms: Terms,
+    pub market: Market,
+    pub limits: Limits,
+    pub book: Book,
+    pub holds: Holds,
+}
+
+// ---- events and shifts
+
+pub struct Quote {
+    pub time: Seconds,
+    pub id: u32,
+    pub bid: Price,
+    pub ask: Price,
+}
+
+// What a byte string says. `Damaged` is every one that is no event.
+pub enum Event {
+    Damaged,
+    Tick(Seconds),
+    Quoted(Quote),
+}
+
+pub struct ShiftLine {
+    pub second: Seconds,
+    pub side: Side,
+    pub id: u32,
+}
+
+// A hold that falls due: when, on which side, and at which place of the table, from 0.
+pub struct Due {
+    pub second: Seconds,
+    pub side: Side,
+    pub place: usize,
+}
+
+pub enum Found {
+    Nothing,
+    At(Due),
+}
+
+// ---- answers
+
+// Refusals 1 to 9, in the order of their numbers.
+pub enum TableReason {
+    Length,
+    Edition,
+    Header,
+    Key,
+    Field,
+    Id,
+    Exponent,
+    HalfMove,
+    Corridor,
+}
+
+// Refusals 10 to 14, in the order of their numbers.
+pub enum EventReason {
+    AfterEnd,
+    BeforeClock,
+    Malformed,
+    UnknownId,
+    Crossed,
+}
+
+pub enum LineAnswer {
+    Opened(Line),
+    Refused(TableReason),
+}
+
+// A refusal has its line, counted from 1, or 0 where the header is at fault.
+pub enum TableAnswer {
+    Opened,
+    Refused(TableReason, u32),
+}
+
+pub enum EventAnswer {
+    Accepted,
+    Refused(EventReason),
+}
+
+pub enum LimitsAnswer {
+    Standing(Limits),
+    Refused(EventReason),
+}
+
+pub enum PlaceAnswer {
+    Below,
+    Inside,
+    Above,
+    Refused(EventReason),
+}
+
+// ---- what the program prints
+
+pub struct Closing {
+    pub id: u32,
+    pub lower: Steps,
+    pub upper: Steps,
+    pub lowerbound: Steps,
+    pub upperbound: Steps,
+}
+
+pub enum Row {
+    Shift(ShiftLine),
+    RefusedEvent(EventReason),
+    RefusedTable(TableReason, u32),
+    Closed(Closing),
+}
