@@ -14,3 +14,4 @@ pub mod Program
 pub mod Inputs
 pub mod Figures
 pub mod Examples
+pub mod Ranges

@@ -42,6 +42,10 @@ pub use Rattle.method.specs.declared.PlaceAnswer.the-variants.{Below, In
 pub use Rattle.method.specs.declared.Closing.{Closing}
 pub use Rattle.method.specs.declared.Row.{Row}
 
+abbrev pub other : Side → Side
+other Up = Down
+other Down = Up
+
 -- ---- a number with its unit
 abbrev pub steps : ℤ → Steps
 steps z = record { 0 = z }

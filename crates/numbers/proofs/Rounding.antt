@@ -74,6 +74,13 @@ neg-mono a b h = omega (zarith, neg-is a, neg-is b)
 pub ceiling-mono : {a b : ℤ} (d : ℕ) → a ≤ℤ b → ceiling a d ≤ℤ ceiling b d
 ceiling-mono {a} {b} d h = neg-mono (floor (negℤ b) d) (floor (negℤ a) d) (floor-mono d (neg-mono a b h))
 
+-- ---- a multiple of the divisor is divided exactly
+pub floor-exact : (z : ℤ) (d : ℕ) → 0 < d → floor (z *ℤ pos d) d ≡ z
+floor-exact z d h = floor-only (z *ℤ pos d) z d h (record { low = omega zarith; high = omega (zarith, add-is (z *ℤ pos d) (pos d)) })
+
+pub ceiling-exact : (z : ℤ) (d : ℕ) → 0 < d → ceiling (z *ℤ pos d) d ≡ z
+ceiling-exact z d h = ceiling-only (z *ℤ pos d) z d h (record { low = omega (zarith, sub-is (z *ℤ pos d) (pos d)); high = omega zarith })
+
 -- ---- one divisor more is one more
 pub floor-next : (z : ℤ) (d : ℕ) → 0 < d → floor (z +ℤ pos d) d ≡ floor z d +ℤ pos 1
 floor-next z d h = go (floor z d) (floor-is z d h)

@@ -1,13 +1,13 @@
 -- A test that computes, and the fact that it decides. Assumes nothing.
 use mathlib.Core.Path.{_≡_, refl, sym, subst, ap}
 use mathlib.Core.Bool.{Bool, true, false, not, _&&_}
-use Prim.Native.Nat.{ℕ, _≤_}
+use Prim.Native.Nat.{ℕ}
 use lib.Dec.{T, lt→ltb, nleb→lt, eqb-refl}
 use borrow.Author.Tests.{leb-true, eqb-true}
 use lib.IntN.{ℤ, pos, negsuc, negℤ}
 use lib.Signed.{leZ, ltZ, _≤ℤ_, _<ℤ_, ltZ-no}
-use Rattle.numbers.specs.Ranges.{Within}
-use Rattle.numbers.specs.Tests.{in-range, in-span, same}
+use Rattle.numbers.specs.Ranges.{Within, Between, Span}
+use Rattle.numbers.specs.Tests.{in-range, between, in-span, same}
 use Rattle.numbers.proofs.Halves.{zarith}
 use Rattle.numbers.proofs.Ranges.{within-between}
 
@@ -74,15 +74,14 @@ pub same-false : (a b : ℤ) → same a b ≡ false → a ≡ b → ⊥
 same-false a b e q = subst T e (subst (λ (z : ℤ). T (same a z)) q (same-self a))
 
 -- ---- ranges
-pub record Between (low high n : ℕ) : Type 0 where
-  pub least : low ≤ n
-  pub most : n ≤ high
-
 pub in-range-true : (low high n : ℕ) → in-range low high n ≡ true → Between low high n
 in-range-true low high n e = let p = both _ _ e in record { least = leb-true low n (p .0); most = leb-true n high (p .1) }
 
+pub between-true : (low high z : ℤ) → between low high z ≡ true → Span low high z
+between-true low high z e = let p = both _ _ e in record { least = le-true low z (p .0); most = le-true z high (p .1) }
+
 pub in-span-true : (k : ℕ) (z : ℤ) → in-span k z ≡ true → Within k z
-in-span-true k z e = let p = both _ _ e in within-between (le-true (negℤ (pos k)) z (p .0)) (le-true z (pos k) (p .1))
+in-span-true k z e = let r = between-true (negℤ (pos k)) (pos k) z e in within-between (r .least) (r .most)
 
 -- a range from the two tests that refuse what lies outside of it
 pub within-tested : (k : ℕ) (z : ℤ) → ltZ z (negℤ (pos k)) ≡ false → ltZ (pos k) z ≡ false → Within k z

@@ -1,0 +1,159 @@
+-- The ranges of every number of an opened line. Assumes nothing.
+use mathlib.Core.Path.{_≡_, refl, sym, ap, _∙_, subst}
+use mathlib.Core.Bool.{Bool, true, false, cond, _&&_, _||_}
+use mathlib.Core.List.{List}
+use Prim.Native.Nat.{ℕ, suc, _*_, _≤_, _<_}
+use native.Mathlib.Nat.{mul-le-mul}
+use native.Mathlib.Omega.{arith}
+use lib.Dec.{leb}
+use lib.IntN.{ℤ, pos, negsuc, natAbs, _*ℤ_, *ℤ-comm}
+use lib.Signed.{ltZ, leZ, _≤ℤ_}
+use borrow.Author.Tests.{ltb-true, leb-true}
+use Rattle.numbers.specs.Ranges.{Within, Between, Span}
+use Rattle.numbers.specs.Rounding.{floor, ceiling}
+use Rattle.numbers.proofs.Halves.{zarith, apart, abs-is}
+use Rattle.numbers.proofs.Linear.{≤ℤ-trans}
+use Rattle.numbers.proofs.Rounding.{floor-mono, ceiling-mono}
+use Rattle.numbers.proofs.Tests.{both, lt-true, lt-false, le-true, in-range-true, between-true, in-span-true}
+use Rattle.method.specs.Types.{Steps, Millionths, Key, Contract, Terms, Market, Line, LineAnswer, TableReason}
+use Rattle.method.specs.Growth.{rate-at, exponent, most-exponent}
+use Rattle.method.specs.Opening.{
+  permits-negative,
+  rates-good,
+  fields-good,
+  known,
+  id-good,
+  normal-price,
+  half-width,
+  market-of,
+  half-move,
+  terms-of,
+  corridor,
+  inside-bounds,
+  fresh-line,
+  opened-with,
+  open-line,
+}
+use Rattle.method.specs.Ranges.{ContractIn, TermsIn, MarketIn, Opened}
+use Rattle.method.proofs.Demands.{met-by}
+use Rattle.method.proofs.Growth.{factors-in}
+use Rattle.method.proofs.Corridor.{corridor-in}
+
+-- ---- what the range tests tell of the ten fields
+pub contract-in : (c : Contract) → fields-good c ≡ true → ContractIn c
+unfolding fields-good rates-good
+contract-in c e =
+    let flags = both _ _ e in
+    let days = both _ _ (flags .0) in
+    let width = both _ _ (days .0) in
+    let rates = both _ _ (width .0) in
+    let rising3 = both _ _ (rates .1) in
+    let rate3 = both _ _ (rising3 .0) in
+    let rising2 = both _ _ (rate3 .0) in
+    let rate2 = both _ _ (rising2 .0) in
+    let least = both _ _ (rates .0) in
+    let spot = both _ _ (least .0) in
+    let price = both _ _ (spot .0) in
+    record {
+      price = in-span-true 100_000_000 (c .price .0) (price .0);
+      positive = λ n. le-true (pos 1) (c .price .0) (rw n at (price .1));
+      spot = in-span-true 100_000_000 (c .spot .0) (spot .1);
+      least = between-true (pos 1) (pos 100_000_000) (c .least .0) (least .1);
+      rate1 = in-range-true 1 1_000_000 (c .rate1 .0) (rate2 .0);
+      rate2 = in-range-true 1 1_000_000 (c .rate2 .0) (rate2 .1);
+      rate3 = in-range-true 1 1_000_000 (c .rate3 .0) (rate3 .1);
+      rising2 = leb-true (c .rate1 .0) (c .rate2 .0) (rising2 .1);
+      rising3 = leb-true (c .rate2 .0) (c .rate3 .0) (rising3 .1);
+      width = leb-true (c .width .0) 1_000_000 (width .1);
+      days = leb-true (c .days) 3_650 (days .1);
+      flags = ltb-true (c .flags) 4 (flags .1);
+    }
+
+-- ---- a product of a number and a natural one, both in their ranges
+product-in : (z : ℤ) (n j k : ℕ) → Span (pos 1) (pos j) z → Between 1 k n → Span (pos 1) (pos (j * k)) (z *ℤ pos n)
+product-in (pos m) n j k r s = record { least = omega (zarith, mul-le-mul (positive (r .least)) (s .least)); most = omega (zarith, mul-le-mul (most (r .most)) (s .most)) }
+  where
+    positive : pos 1 ≤ℤ pos m → 1 ≤ m
+    positive h = omega zarith
+
+    most : pos m ≤ℤ pos j → m ≤ j
+    most h = omega zarith
+product-in (negsuc m) n j k r s = absurd (r .least .le)
+
+-- ---- the half-widths
+normal-in : (c : Contract) → ContractIn c → Span (pos 1) (pos 100_000_000) (normal-price c)
+unfolding normal-price
+normal-in c r = go (ltZ (pos (natAbs (c .spot .0))) (c .least .0)) refl
+  where
+    go : (b : Bool) → ltZ (pos (natAbs (c .spot .0))) (c .least .0) ≡ b → Span (pos 1) (pos 100_000_000) (cond b (c .least .0) (pos (natAbs (c .spot .0))))
+    go true e = r .least
+    go false e =
+        let h = lt-false (pos (natAbs (c .spot .0))) (c .least .0) e in
+        record { least = omega (zarith, r .least .least); most = omega (zarith, abs-is (c .spot .0), apart (c .spot .0), r .spot) }
+
+half-width-in : (c : Contract) (rate : Millionths) → ContractIn c → Between 1 1_000_000 (rate .0) → Span (pos 1) (pos 100_000_000) (half-width c rate .0)
+unfolding half-width
+half-width-in c rate r s =
+    let p = product-in (normal-price c) (rate .0) 100_000_000 1_000_000 (normal-in c r) s in
+    record { least = ceiling-mono {a = pos 1} 1_000_000 (p .least); most = ceiling-mono {b = pos 100_000_000_000_000} 1_000_000 (p .most) }
+
+market-in : (c : Contract) → ContractIn c → MarketIn (market-of c)
+unfolding market-of
+market-in c r =
+    record {
+      centre = r .price;
+      half1 = half-width-in c (c .rate1) r (r .rate1);
+      half2 = half-width-in c (c .rate2) r (r .rate2);
+      half3 = half-width-in c (c .rate3) r (r .rate3);
+    }
+
+-- ---- the half-move
+half-move-most : (shift : Millionths) (half1 : Steps) → Between 1 1_000_000 (shift .0) → Span (pos 1) (pos 100_000_000) (half1 .0) → (half-move shift half1 .0) ≤ℤ pos 50_000_000
+unfolding half-move
+half-move-most shift half1 s r =
+    floor-mono {a = pos (shift .0) *ℤ half1 .0} {b = pos 100_000_000_000_000} 2_000_000
+    (rw (*ℤ-comm (pos (shift .0)) (half1 .0)) (product-in (half1 .0) (shift .0) 100_000_000 1_000_000 r s .most))
+
+-- ---- the whole line
+module _ (shift : Millionths) (y : ℕ) (c : Contract) (s : Between 1 1_000_000 (shift .0)) (r : ContractIn c) where
+  line-in : 0 < c .id → y ≤ most-exponent → pos 1 ≤ℤ (terms-of shift y c .halfmove .0) → inside-bounds (terms-of shift y c) (market-of c) (corridor (c .width) (terms-of shift y c) (market-of c)) ≡ true
+      → Opened (fresh-line (terms-of shift y c) (market-of c) (corridor (c .width) (terms-of shift y c) (market-of c)))
+  unfolding fresh-line terms-of
+  line-in id cap moves inside =
+      let f = factors-in y cap in
+      let m = market-in c r in
+      record {
+        terms =
+            record {
+              id = id;
+              flags = r .flags;
+              halfmove = record { least = moves; most = half-move-most shift (half-width c (c .rate1)) s (half-width-in c (c .rate1) r (r .rate1)) };
+              factors = record { up = f .0; down = f .1 };
+            };
+        market = m;
+        limits =
+            corridor-in (c .width) (terms-of shift y c) (market-of c) (record { up = f .0; down = f .1 }) (≤ℤ-trans (omega zarith) (m .half1 .least))
+            (unfold market-of in refl) (unfold market-of in r .positive) inside;
+        book = refl;
+        holds = refl;
+      }
+
+not-opened : {why : TableReason} {l : Line} → LineAnswer.Refused why ≡ LineAnswer.Opened l → ⊥
+not-opened e = let z : _≡_ {A = ℕ} 0 1 = cc in omega arith
+
+same-line : {k l : Line} → LineAnswer.Opened k ≡ LineAnswer.Opened l → k ≡ l
+same-line e = cc
+
+pub open-line-in : (shift : Millionths) (keys : List Key) (earlier : List Line) (c : Contract) (l : Line) → Between 1 1_000_000 (shift .0)
+    → open-line shift keys earlier c ≡ LineAnswer.Opened l → Opened l
+unfolding open-line opened-with id-good
+open-line-in shift keys earlier c l s e =
+    let fields = met-by (fields-good c) not-opened e in
+    let id = met-by (id-good earlier (c .id)) not-opened (fields .1) in
+    let y = exponent (rate-at keys (c .days)) (c .days) in
+    let cap = met-by (leb y most-exponent) not-opened (id .1) in
+    let moves = met-by (leZ (pos 1) (terms-of shift y c .halfmove .0)) not-opened (cap .1) in
+    let inside = met-by (inside-bounds (terms-of shift y c) (market-of c) (corridor (c .width) (terms-of shift y c) (market-of c))) not-opened (moves .1) in
+    subst Opened (same-line (inside .1))
+    (line-in shift y c s (contract-in c (fields .0)) (ltb-true 0 (c .id) (both _ _ (id .0) .0)) (leb-true y most-exponent (cap .0))
+    (le-true (pos 1) (terms-of shift y c .halfmove .0) (moves .0)) (inside .0))

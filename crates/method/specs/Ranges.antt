@@ -1,0 +1,105 @@
+-- The ranges of an opened line and of an opening state: what an accepted table tells.
+use mathlib.Core.Path.{_≡_}
+use mathlib.Core.Bool.{true, false}
+use mathlib.Core.List.{List, [], _∷_}
+use Prim.Native.Nat.{ℕ, _≤_, _<_}
+use lib.IntN.{ℤ, pos}
+use lib.ListN.{length}
+use lib.Signed.{_≤ℤ_}
+use Rattle.numbers.specs.Ranges.{Within, Between, Span}
+use Rattle.method.specs.Types.{Header, Key, Contract, Up, Down, Steps, Terms, Market, Limits, Absent, Idle, Book, Holds, Line, State, seconds}
+use Rattle.method.specs.Bounds.{bound}
+use Rattle.method.specs.Opening.{permits-negative}
+
+-- ---- the header
+pub record HeaderIn (h : Header) : Type 0 where
+  pub contracts : Between 1 32 (h .contracts)
+  pub keys : Between 1 16 (h .keys)
+  pub end : Between 1 172_800 (h .end .0)
+  pub hold : Between 1 3_600 (h .hold .0)
+  pub most : h .most ≤ 16
+  pub near : Between 1 500_000 (h .near .0)
+  pub shift : Between 1 1_000_000 (h .shift .0)
+
+-- ---- keys
+pub record KeyIn (before : ℕ) (k : Key) : Type 0 where
+  pub days : Between 1 3_650 (k .days)
+  pub rising : before < k .days
+  pub rate : k .rate .0 ≤ 1_000_000
+
+unfoldable pub KeysIn : ℕ → List Key → Type 0
+KeysIn before [] = Unit {0}
+KeysIn before (k ∷ keys) = KeyIn before k × KeysIn (k .days) keys
+
+-- ---- a contract
+pub record ContractIn (c : Contract) : Type 0 where
+  pub price : Within 100_000_000 (c .price .0)
+  pub positive : permits-negative (c .flags) ≡ false → pos 1 ≤ℤ (c .price .0)
+  pub spot : Within 100_000_000 (c .spot .0)
+  pub least : Span (pos 1) (pos 100_000_000) (c .least .0)
+  pub rate1 : Between 1 1_000_000 (c .rate1 .0)
+  pub rate2 : Between 1 1_000_000 (c .rate2 .0)
+  pub rate3 : Between 1 1_000_000 (c .rate3 .0)
+  pub rising2 : c .rate1 .0 ≤ c .rate2 .0
+  pub rising3 : c .rate2 .0 ≤ c .rate3 .0
+  pub width : c .width .0 ≤ 1_000_000
+  pub days : c .days ≤ 3_650
+  pub flags : c .flags < 4
+
+-- ---- a line; the factors are those up to the cap
+pub record FactorsIn (t : Terms) : Type 0 where
+  pub up : Between 1_000_000_000 1_650_000_000 (t .factors .up .0)
+  pub down : Between 606_000_000 1_000_000_000 (t .factors .down .0)
+
+pub record TermsIn (t : Terms) : Type 0 where
+  pub id : 0 < t .id
+  pub flags : t .flags < 4
+  pub halfmove : Span (pos 1) (pos 50_000_000) (t .halfmove .0)
+  pub factors : FactorsIn t
+
+pub record MarketIn (m : Market) : Type 0 where
+  pub centre : Within 100_000_000 (m .centre .0)
+  pub half1 : Span (pos 1) (pos 100_000_000) (m .half1 .0)
+  pub half2 : Span (pos 1) (pos 100_000_000) (m .half2 .0)
+  pub half3 : Span (pos 1) (pos 100_000_000) (m .half3 .0)
+
+-- The floor of one step: nothing stands below it where negative prices are not permitted, and what is frozen stands there.
+pub record Floor (k : Limits) (flags : ℕ) : Type 0 where
+  pub least : permits-negative flags ≡ false → pos 1 ≤ℤ (k .lower .0)
+  pub frozen-at : k .frozen ≡ true → k .lower .0 ≡ pos 1
+  pub frozen-by : k .frozen ≡ true → permits-negative flags ≡ false
+
+-- Both limits lie between the interest bounds, and the centre between the limits.
+pub record LimitsIn (t : Terms) (m : Market) (k : Limits) : Type 0 where
+  pub upper : (k .upper .0) ≤ℤ (bound Up t m)
+  pub lower : (bound Down t m) ≤ℤ (k .lower .0)
+  pub over-centre : (m .centre .0) ≤ℤ (k .upper .0)
+  pub under-centre : (k .lower .0) ≤ℤ (m .centre .0)
+  pub floor : Floor k (t .flags)
+
+abbrev pub empty-book : Book
+empty-book = record { bid = Absent; ask = Absent }
+
+abbrev pub no-holds : Holds
+no-holds = record { up = Idle; down = Idle }
+
+pub record Opened (l : Line) : Type 0 where
+  pub terms : TermsIn (l .terms)
+  pub market : MarketIn (l .market)
+  pub limits : LimitsIn (l .terms) (l .market) (l .limits)
+  pub book : l .book ≡ empty-book
+  pub holds : l .holds ≡ no-holds
+
+-- ---- the whole table
+unfoldable pub Every : {A : Type 0} → (A → Type 0) → List A → Type 0
+Every P [] = Unit {0}
+Every P (x ∷ xs) = P x × Every P xs
+
+pub record OpeningIn (s : State) : Type 0 where
+  pub count : Between 1 32 (length (s .lines))
+  pub lines : Every Opened (s .lines)
+  pub clock : s .clock ≡ seconds 0
+  pub end : Between 1 172_800 (s .end .0)
+  pub hold : Between 1 3_600 (s .hold .0)
+  pub left : s .left ≤ 16
+  pub near : Between 1 500_000 (s .near .0)
