@@ -1,4 +1,5 @@
 pub mod Demands
+pub mod Every
 pub mod Growth
 pub mod Bounds
 pub mod Floor
@@ -6,3 +7,4 @@ pub mod Corridor
 pub mod Opening
 pub mod Table
 pub mod Pressure
+pub mod Exact

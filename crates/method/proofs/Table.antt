@@ -32,6 +32,7 @@ use Rattle.method.specs.Table.{
   opening,
 }
 use Rattle.method.specs.Ranges.{KeyIn, KeysIn, HeaderIn, Every, Opened, OpeningIn}
+use Rattle.method.proofs.Every.{every-last}
 use Rattle.method.proofs.Demands.{met-by}
 use Rattle.method.proofs.Opening.{open-line-in}
 
@@ -77,11 +78,6 @@ keys-in line before (k ∷ keys) e = go (key-good before k) refl e (keys-in (suc
     go false q e more = absurd (no-line e)
 
 -- ---- the lines
-pub every-last : {A : Type 0} (P : A → Type 0) (xs : List A) (x : A) → Every P xs → P x → Every P (xs ++ (x ∷ []))
-unfolding Every
-every-last P [] x ps p = (p, tt)
-every-last P (y ∷ xs) x ps p = (ps .0, every-last P xs x (ps .1) p)
-
 not-opened : {why : TableReason} {line : ℕ} {s : State} → refused why line ≡ opened s → ⊥
 not-opened e = let z : _≡_ {A = ℕ} 0 1 = cc in omega arith
 

@@ -1,7 +1,7 @@
 -- Rule 2 as a relation between events and answers, in the words of paper 01 ("Pressure, hold, shift") and with no search in it: which hold
 -- goes first, which shift lines an event calls for, which answers a list of byte strings has.
 use mathlib.Core.Path.{_≡_}
-use mathlib.Core.List.{List, [], _∷_}
+use mathlib.Core.List.{List, [], _∷_, _++_}
 use Prim.Native.Nat.{ℕ, _+_, _≤_, _<_}
 use lib.ListN.{getD}
 use Rattle.method.specs.Types.{Side, Up, Down, Seconds, Since, Event, Damaged, Tick, Quoted, ShiftLine, Due, State, EventAnswer, seconds, blank}
@@ -60,3 +60,17 @@ Answers s [] [] = Unit {0}
 Answers s [] (a ∷ rs) = ⊥
 Answers s (b ∷ bs) [] = ⊥
 Answers s (b ∷ bs) (a ∷ rs) = Right s (read b) a × Answers (next s (read b) a) bs rs
+
+-- ---- of a list of answers: the state that it leaves, and its shift lines joined
+unfoldable pub reached : State → List (List ℕ) → List Answer → State
+reached s [] rs = s
+reached s (b ∷ bs) [] = s
+reached s (b ∷ bs) (a ∷ rs) = reached (next s (read b) a) bs rs
+
+abbrev pub lines-of : Answer → List ShiftLine
+lines-of (accepted cs) = cs
+lines-of (refused why) = []
+
+unfoldable pub joined : List Answer → List ShiftLine
+joined [] = []
+joined (a ∷ rs) = lines-of a ++ joined rs

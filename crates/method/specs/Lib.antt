@@ -15,3 +15,4 @@ pub mod Inputs
 pub mod Figures
 pub mod Examples
 pub mod Ranges
+pub mod Sound

@@ -1,7 +1,7 @@
 -- How the answers are found. Nobody has to believe this file: it is to be proved to give the one list of answers that `CalledFor` admits.
 -- The search passes the lines once, in the table's order, and carries the hold that goes first of those passed.
 use mathlib.Core.Bool.{Bool, true, false, cond}
-use mathlib.Core.List.{List, [], _∷_, _++_}
+use mathlib.Core.List.{List, [], _∷_}
 use Prim.Native.Nat.{ℕ, zero, suc, _+_}
 use lib.Dec.{ltb, leb}
 use lib.ListN.{getD}
@@ -86,7 +86,7 @@ answered (EventAnswer.Refused why) cs = refused why
 unfoldable pub answer : State → Event → Answer
 answer s e = answered (verdict s e) (serve (s .left) (time e) s)
 
--- the answers to a list of byte strings, the state after them, and their shift lines joined
+-- the answers to a list of byte strings, and the state after them
 unfoldable pub run : State → List (List ℕ) → List Answer
 run s [] = []
 run s (b ∷ bs) = let a : Answer = answer s (read b) in a ∷ run (next s (read b) a) bs
@@ -94,11 +94,3 @@ run s (b ∷ bs) = let a : Answer = answer s (read b) in a ∷ run (next s (read
 unfoldable pub finally : State → List (List ℕ) → State
 finally s [] = s
 finally s (b ∷ bs) = finally (next s (read b) (answer s (read b))) bs
-
-abbrev pub lines-of : Answer → List ShiftLine
-lines-of (accepted cs) = cs
-lines-of (refused why) = []
-
-unfoldable pub joined : List Answer → List ShiftLine
-joined [] = []
-joined (a ∷ rs) = lines-of a ++ joined rs

@@ -1,0 +1,36 @@
+-- Facts of every element of a list. Assumes nothing.
+use mathlib.Core.List.{List, [], _∷_, _++_, map}
+use Prim.Native.Nat.{ℕ, zero, suc, _<_}
+use native.Mathlib.Omega.{arith}
+use lib.ListN.{length, getD}
+use Rattle.method.specs.Ranges.{Every}
+
+module _ {A : Type 0} where
+  pub every-map : (P Q : A → Type 0) (f : A → A) → ((x : A) → P x → Q (f x)) → (xs : List A) → Every P xs → Every Q (map f xs)
+  unfolding Every
+  every-map P Q f h [] ps = tt
+  every-map P Q f h (x ∷ xs) ps = (h x (ps .0), every-map P Q f h xs (ps .1))
+
+  pub every-weaker : (P Q : A → Type 0) → ((x : A) → P x → Q x) → (xs : List A) → Every P xs → Every Q xs
+  unfolding Every
+  every-weaker P Q h [] ps = tt
+  every-weaker P Q h (x ∷ xs) ps = (h x (ps .0), every-weaker P Q h xs (ps .1))
+
+  pub every-all : (P : A → Type 0) → ((x : A) → P x) → (xs : List A) → Every P xs
+  unfolding Every
+  every-all P h [] = tt
+  every-all P h (x ∷ xs) = (h x, every-all P h xs)
+
+  pub every-at : (P : A → Type 0) (xs : List A) (d : A) (i : ℕ) → Every P xs → i < length xs → P (getD xs i d)
+  unfolding Every
+  every-at P [] d i ps h = absurd (never h)
+    where
+      never : i < 0 → ⊥
+      never h = omega arith
+  every-at P (x ∷ xs) d zero ps h = ps .0
+  every-at P (x ∷ xs) d (suc i) ps h = every-at P xs d i (ps .1) (omega arith)
+
+  pub every-last : (P : A → Type 0) (xs : List A) (x : A) → Every P xs → P x → Every P (xs ++ (x ∷ []))
+  unfolding Every
+  every-last P [] x ps p = (p, tt)
+  every-last P (y ∷ xs) x ps p = (ps .0, every-last P xs x (ps .1) p)

@@ -1,0 +1,23 @@
+-- What holds of a session at opening and after every event.
+use mathlib.Core.Path.{_≡_}
+use mathlib.Core.Bool.{Bool, true, false, _&&_}
+use Prim.Native.Nat.{ℕ, _≤_}
+use lib.Dec.{ltb}
+use Rattle.method.specs.Types.{Side, Millionths, Hold, Idle, Since, Line, State}
+use Rattle.method.specs.Pressure.{hold-of, presses}
+use Rattle.method.specs.CalledFor.{Done}
+use Rattle.method.specs.Ranges.{Every}
+
+abbrev pub standing : Hold → Bool
+standing Idle = false
+standing (Since start) = true
+
+-- a hold stands exactly where a watched line presses and shifts are left
+unfoldable pub Exact : Millionths → ℕ → Line → Type 0
+Exact near left l = (side : Side) → standing (hold-of side (l .holds)) ≡ (ltb 0 left && presses side near l)
+
+-- and no hold is left to serve up to the clock
+pub record Sound (s : State) : Type 0 where
+  pub waits : 1 ≤ s .hold .0
+  pub exact : Every (Exact (s .near) (s .left)) (s .lines)
+  pub served : Done (s .clock) s
