@@ -34,3 +34,14 @@ module _ {A : Type 0} where
   unfolding Every
   every-last P [] x ps p = (p, tt)
   every-last P (y ∷ xs) x ps p = (ps .0, every-last P xs x (ps .1) p)
+
+  -- of the images of a list's elements
+  pub every-of-map : (Q : A → Type 0) {B : Type 0} (f : B → A) (xs : List B) → Every Q (map f xs) → Every (λ x. Q (f x)) xs
+  unfolding Every
+  every-of-map Q f [] ps = tt
+  every-of-map Q f (x ∷ xs) ps = (ps .0, every-of-map Q f xs (ps .1))
+
+  pub every-to-map : (Q : A → Type 0) {B : Type 0} (f : B → A) (xs : List B) → Every (λ x. Q (f x)) xs → Every Q (map f xs)
+  unfolding Every
+  every-to-map Q f [] ps = tt
+  every-to-map Q f (x ∷ xs) ps = (ps .0, every-to-map Q f xs (ps .1))

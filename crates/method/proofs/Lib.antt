@@ -8,3 +8,7 @@ pub mod Opening
 pub mod Table
 pub mod Pressure
 pub mod Exact
+pub mod Decided
+pub mod LineAnswered
+pub mod TableAnswered
+pub mod EventAnswered

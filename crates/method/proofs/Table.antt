@@ -57,7 +57,7 @@ header-in h e =
     }
 
 -- ---- the keys
-key-in : (before : ℕ) (k : Key) → key-good before k ≡ true → KeyIn before k
+pub key-in : (before : ℕ) (k : Key) → key-good before k ≡ true → KeyIn before k
 unfolding key-good
 key-in before k e =
     let rate = both _ _ e in

@@ -16,3 +16,4 @@ pub mod Figures
 pub mod Examples
 pub mod Ranges
 pub mod Sound
+pub mod Rule1

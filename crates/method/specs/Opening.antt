@@ -122,6 +122,9 @@ fresh-line t m k =
     }
 
 -- ---- a contract, after the lines before it: "each contract line in turn with 5 to 9"
+abbrev pub exponent-of : List Key → Contract → ℕ
+exponent-of keys c = exponent (rate-at keys (c .days)) (c .days)
+
 unfoldable pub opened-with : Millionths → Terms → Market → LineAnswer
 opened-with width t m =
     demand (leZ (pos 1) (t .halfmove .0)) (LineAnswer.Refused TableReason.HalfMove)
@@ -130,7 +133,7 @@ opened-with width t m =
 
 unfoldable pub open-line : Millionths → List Key → List Line → Contract → LineAnswer
 open-line shift keys earlier c =
-    let y : ℕ = exponent (rate-at keys (c .days)) (c .days) in
+    let y : ℕ = exponent-of keys c in
     demand (fields-good c) (LineAnswer.Refused TableReason.Field)
     (demand (id-good earlier (c .id)) (LineAnswer.Refused TableReason.Id)
     (demand (leb y most-exponent) (LineAnswer.Refused TableReason.Exponent)

@@ -1,14 +1,14 @@
 -- A test that computes, and the fact that it decides. Assumes nothing.
-use mathlib.Core.Path.{_≡_, refl, sym, subst, ap}
-use mathlib.Core.Bool.{Bool, true, false, not, _&&_}
+use mathlib.Core.Path.{_≡_, refl, sym, subst, ap, _∙_}
+use mathlib.Core.Bool.{Bool, true, false, not, _&&_, true≢false}
 use Prim.Native.Nat.{ℕ}
 use lib.Dec.{T, lt→ltb, nleb→lt, eqb-refl}
-use borrow.Author.Tests.{leb-true, eqb-true}
+use borrow.Author.Tests.{leb-true, eqb-true, le-leb}
 use lib.IntN.{ℤ, pos, negsuc, negℤ}
 use lib.Signed.{leZ, ltZ, _≤ℤ_, _<ℤ_, ltZ-no}
 use Rattle.numbers.specs.Ranges.{Within, Between, Span}
 use Rattle.numbers.specs.Tests.{in-range, between, in-span, same}
-use Rattle.numbers.proofs.Halves.{zarith}
+use Rattle.numbers.proofs.Halves.{zarith, neg-is}
 use Rattle.numbers.proofs.Ranges.{within-between}
 
 -- ---- flags
@@ -23,6 +23,13 @@ is-false false h = refl
 pub both : (a b : Bool) → (a && b) ≡ true → (a ≡ true) × (b ≡ true)
 both true b e = (refl, e)
 both false b e = absurd (subst T (sym e) tt)
+
+pub both-true : {a b : Bool} → a ≡ true → b ≡ true → (a && b) ≡ true
+both-true e f = rw (e, f)
+
+-- a test that fails where what it decides holds
+pub never-both : {A : Type 0} {t : Bool} → t ≡ false → t ≡ true → A
+never-both e f = absurd (true≢false (sym f ∙ e))
 
 -- ---- orders
 pub lt-true : (a b : ℤ) → ltZ a b ≡ true → a <ℤ b
@@ -70,6 +77,9 @@ same-self : (a : ℤ) → T (same a a)
 same-self (pos a) = eqb-refl a
 same-self (negsuc a) = eqb-refl a
 
+pub true-same : {a b : ℤ} → a ≡ b → same a b ≡ true
+true-same {a} {b} e = is-true (same a b) (subst (λ (z : ℤ). T (same a z)) e (same-self a))
+
 pub same-false : (a b : ℤ) → same a b ≡ false → a ≡ b → ⊥
 same-false a b e q = subst T e (subst (λ (z : ℤ). T (same a z)) q (same-self a))
 
@@ -77,11 +87,20 @@ same-false a b e q = subst T e (subst (λ (z : ℤ). T (same a z)) q (same-self 
 pub in-range-true : (low high n : ℕ) → in-range low high n ≡ true → Between low high n
 in-range-true low high n e = let p = both _ _ e in record { least = leb-true low n (p .0); most = leb-true n high (p .1) }
 
+pub range-in : {low high n : ℕ} → Between low high n → in-range low high n ≡ true
+range-in r = both-true (le-leb _ _ (r .least)) (le-leb _ _ (r .most))
+
 pub between-true : (low high z : ℤ) → between low high z ≡ true → Span low high z
 between-true low high z e = let p = both _ _ e in record { least = le-true low z (p .0); most = le-true z high (p .1) }
 
 pub in-span-true : (k : ℕ) (z : ℤ) → in-span k z ≡ true → Within k z
 in-span-true k z e = let r = between-true (negℤ (pos k)) (pos k) z e in within-between (r .least) (r .most)
+
+pub span-in : {low high z : ℤ} → Span low high z → between low high z ≡ true
+span-in r = both-true (true-le (r .least)) (true-le (r .most))
+
+pub within-in : {k : ℕ} {z : ℤ} → Within k z → in-span k z ≡ true
+within-in {k} {z} r = span-in {low = negℤ (pos k)} {high = pos k} (record { least = omega (zarith, neg-is (pos k)); most = omega zarith })
 
 -- a range from the two tests that refuse what lies outside of it
 pub within-tested : (k : ℕ) (z : ℤ) → ltZ z (negℤ (pos k)) ≡ false → ltZ (pos k) z ≡ false → Within k z

@@ -1,0 +1,101 @@
+-- Each test of a table holds exactly where its fact does. That the fact holds where the test does stands, for the longer ones, in
+-- proofs/Opening and proofs/Table. Assumes nothing.
+use mathlib.Core.Path.{_≡_, refl}
+use mathlib.Core.Bool.{Bool, true, false, _||_}
+use mathlib.Core.List.{List, [], _∷_}
+use Prim.Native.Nat.{ℕ}
+use lib.Dec.{eqb}
+use borrow.Author.Tests.{eqb-true, eqb-false, le-leb, lt-ltb, eq-eqb, ne-eqb}
+use Rattle.numbers.proofs.Tests.{both, both-true, never-both, le-true, true-le, range-in, span-in, within-in}
+use Rattle.method.specs.Types.{Header, Key, Contract, Terms, Market, Limits, Line, demand}
+use Rattle.method.specs.Opening.{permits-negative, rates-good, fields-good, known, inside-bounds}
+use Rattle.method.specs.Table.{header-good, laid-out, key-good}
+use Rattle.method.specs.Ranges.{HeaderIn, KeyIn, ContractIn, Every}
+use Rattle.method.specs.Rule1.{Laid, Inside}
+
+-- ---- a test that fails denies what it decides; one that decides it holds where that holds
+pub denied : {P : Type 0} (t : Bool) → (P → t ≡ true) → t ≡ false → P → ⊥
+denied t f e p = never-both e (f p)
+
+pub refuted : {P : Type 0} (t : Bool) → (t ≡ true → P) → (P → ⊥) → t ≡ false
+refuted true f n = absurd (n (f refl))
+refuted false f n = refl
+
+-- the same of a test whose failure has a meaning
+pub denied-not : {P : Type 0} (t : Bool) → (P → t ≡ false) → t ≡ true → P → ⊥
+denied-not t f e p = never-both (f p) e
+
+pub refuted-not : {P : Type 0} (t : Bool) → (t ≡ false → P) → (P → ⊥) → t ≡ true
+refuted-not true f n = refl
+refuted-not false f n = absurd (n (f refl))
+
+pub by-demand : {A : Type 0} (P : A → Type 0) (t : Bool) {refusal onward : A} → (t ≡ true → P onward) → (t ≡ false → P refusal) → P (demand t refusal onward)
+by-demand P true f g = f refl
+by-demand P false f g = g refl
+
+-- ---- each test holds where its fact does (the other way stands in proofs/Opening and proofs/Table)
+pub header-test : (h : Header) → HeaderIn h → header-good h ≡ true
+unfolding header-good
+header-test h r =
+    both-true
+    (both-true
+    (both-true
+    (both-true (both-true (both-true (range-in (r .contracts)) (range-in (r .keys))) (range-in (r .end))) (range-in (r .hold)))
+    (le-leb (h .most) 16 (r .most))) (range-in (r .near))) (range-in (r .shift))
+
+pub laid-in : (h : Header) (size : ℕ) → laid-out h size ≡ true → Laid h size
+unfolding laid-out
+laid-in h size e =
+    let whole = both _ _ e in
+    let offsets = both _ _ (whole .0) in
+    record { keys = eqb-true _ _ (offsets .0); contracts = eqb-true _ _ (offsets .1); whole = eqb-true _ _ (whole .1) }
+
+pub laid-test : (h : Header) (size : ℕ) → Laid h size → laid-out h size ≡ true
+unfolding laid-out
+laid-test h size r = both-true (both-true (eq-eqb _ _ (r .keys)) (eq-eqb _ _ (r .contracts))) (eq-eqb _ _ (r .whole))
+
+pub key-test : (before : ℕ) (k : Key) → KeyIn before k → key-good before k ≡ true
+unfolding key-good
+key-test before k r = both-true (both-true (range-in (r .days)) (lt-ltb before (k .days) (r .rising))) (le-leb (k .rate .0) 1_000_000 (r .rate))
+
+permitted-or : (p : Bool) {q : Bool} → (p ≡ false → q ≡ true) → (p || q) ≡ true
+permitted-or true f = refl
+permitted-or false f = f refl
+
+pub fields-test : (c : Contract) → ContractIn c → fields-good c ≡ true
+unfolding fields-good rates-good
+fields-test c r =
+    let rates =
+    both-true (both-true (both-true (both-true (range-in (r .rate1)) (range-in (r .rate2))) (le-leb _ _ (r .rising2))) (range-in (r .rate3)))
+    (le-leb _ _ (r .rising3)) in
+    both-true
+    (both-true
+    (both-true
+    (both-true
+    (both-true
+    (both-true (both-true (within-in (r .price)) (permitted-or (permits-negative (c .flags)) (λ n. true-le (r .positive n)))) (within-in (r .spot)))
+    (span-in (r .least))) rates) (le-leb (c .width .0) 1_000_000 (r .width))) (le-leb (c .days) 3_650 (r .days))) (lt-ltb (c .flags) 4 (r .flags))
+
+pub inside-in : (t : Terms) (m : Market) (k : Limits) → inside-bounds t m k ≡ true → Inside t m k
+unfolding inside-bounds
+inside-in t m k e = let p = both _ _ e in record { upper = le-true _ _ (p .0); lower = le-true _ _ (p .1) }
+
+pub inside-test : (t : Terms) (m : Market) (k : Limits) → Inside t m k → inside-bounds t m k ≡ true
+unfolding inside-bounds
+inside-test t m k r = both-true (true-le (r .upper)) (true-le (r .lower))
+
+-- an id that is not known stands on no line
+pub known-not : (id : ℕ) (ls : List Line) → known id ls ≡ false → Every (λ l. l .terms .id ≡ id → ⊥) ls
+unfolding known Every
+known-not id [] e = tt
+known-not id (l ∷ ls) e = go (eqb (l .terms .id) id) refl e (known-not id ls)
+  where
+    go : (t : Bool) → eqb (l .terms .id) id ≡ t → (t || known id ls) ≡ false → (known id ls ≡ false → Every (λ l. l .terms .id ≡ id → ⊥) ls)
+        → (l .terms .id ≡ id → ⊥) × Every (λ l. l .terms .id ≡ id → ⊥) ls
+    go true q e more = never-both e refl
+    go false q e more = (eqb-false (l .terms .id) id q, more e)
+
+pub not-known : (id : ℕ) (ls : List Line) → Every (λ l. l .terms .id ≡ id → ⊥) ls → known id ls ≡ false
+unfolding known Every
+not-known id [] r = refl
+not-known id (l ∷ ls) r = rw (ne-eqb (l .terms .id) id (r .0)) (not-known id ls (r .1))

@@ -1,0 +1,85 @@
+-- Rule 1 for one contract: which answer it has after some contracts before it. Assumes nothing.
+use mathlib.Core.Path.{_≡_, refl}
+use mathlib.Core.Bool.{Bool, true, false, _||_}
+use mathlib.Core.List.{List, [], _∷_, map}
+use Prim.Native.Nat.{ℕ}
+use lib.Dec.{leb, ltb, eqb}
+use lib.IntN.{pos}
+use lib.Signed.{leZ}
+use borrow.Author.Tests.{leb-true, leb-false, ltb-true, eqb-false, not-true, le-leb, lt-leb, lt-ltb, ne-eqb}
+use Rattle.numbers.proofs.Tests.{both, both-true, never-both, le-true, le-false, true-le, false-le}
+use Rattle.method.specs.Types.{Key, Contract, Millionths, Line, LineAnswer, TableReason}
+use Rattle.method.specs.Growth.{most-exponent}
+use Rattle.method.specs.Opening.{fields-good, known, id-good, exponent-of, terms-of, market-of, inside-bounds, fresh-line, opened-with, open-line}
+use Rattle.method.specs.Ranges.{Every}
+use Rattle.method.specs.Rule1.{Fresh, its-terms, its-corridor, its-line, Good, Fault}
+use Rattle.method.proofs.Every.{every-of-map, every-to-map}
+use Rattle.method.proofs.Opening.{contract-in}
+use Rattle.method.proofs.Decided.{denied, refuted, by-demand, known-not, not-known, fields-test, inside-in, inside-test}
+
+-- ---- the ids of the lines that contracts open are the contracts' own
+module _ (shift : Millionths) (keys : List Key) where
+  abbrev pub lines-of : List Contract → List Line
+  lines-of cs = map (its-line shift keys) cs
+
+  -- that an id stands on none of these lines
+  abbrev NotOn : ℕ → Line → Type 0
+  NotOn id l = l .terms .id ≡ id → ⊥
+
+  fresh-in : (earlier : List Contract) (id : ℕ) → id-good (lines-of earlier) id ≡ true → Fresh earlier id
+  unfolding id-good fresh-line terms-of
+  fresh-in earlier id e =
+      let p = both (ltb 0 id) _ e in
+      let new = known-not id (lines-of earlier) (not-true (known id (lines-of earlier)) (p .1)) in
+      record { given = ltb-true 0 id (p .0); new = every-of-map (NotOn id) (its-line shift keys) earlier new }
+
+  fresh-test : (earlier : List Contract) (id : ℕ) → Fresh earlier id → id-good (lines-of earlier) id ≡ true
+  unfolding id-good fresh-line terms-of
+  fresh-test earlier id r = both-true (lt-ltb 0 id (r .given)) (rw (not-known id (lines-of earlier) (every-to-map (NotOn id) (its-line shift keys) earlier (r .new))))
+
+  -- ---- one contract
+  pub data LineAnswered (earlier : List Contract) (c : Contract) : LineAnswer → Type 0 where
+    line-good : Good shift keys earlier c → LineAnswered earlier c (LineAnswer.Opened (its-line shift keys c))
+    line-bad : (why : TableReason) → Fault shift keys earlier c why → LineAnswered earlier c (LineAnswer.Refused why)
+
+  pub line-answered : (earlier : List Contract) (c : Contract) → LineAnswered earlier c (open-line shift keys (lines-of earlier) c)
+  unfolding open-line opened-with
+  line-answered earlier c =
+      let t = its-terms shift keys c in
+      let m = market-of c in
+      let k = its-corridor shift keys c in
+      let y = exponent-of keys c in
+      by-demand (LineAnswered earlier c) (fields-good c)
+      (λ a. by-demand (LineAnswered earlier c) (id-good (lines-of earlier) (c .id))
+      (λ b. by-demand (LineAnswered earlier c) (leb y most-exponent)
+      (λ d. by-demand (LineAnswered earlier c) (leZ (pos 1) (t .halfmove .0))
+      (λ e. by-demand (LineAnswered earlier c) (inside-bounds t m k)
+      (λ f. line-good (record {
+        fields = contract-in c a;
+        id = fresh-in earlier (c .id) b;
+        cap = leb-true y most-exponent d;
+        moves = le-true (pos 1) (t .halfmove .0) e;
+        inside = inside-in t m k f;
+      }))
+      (λ f. line-bad TableReason.Corridor (Fault.limit (contract-in c a) (fresh-in earlier (c .id) b) (leb-true y most-exponent d) (le-true (pos 1) (t .halfmove .0) e) (denied (inside-bounds t m k) (inside-test t m k) f))))
+      (λ e. line-bad TableReason.HalfMove (Fault.half-move (contract-in c a) (fresh-in earlier (c .id) b) (leb-true y most-exponent d) (le-false (pos 1) (t .halfmove .0) e))))
+      (λ d. line-bad TableReason.Exponent (Fault.exponent (contract-in c a) (fresh-in earlier (c .id) b) (leb-false y most-exponent d))))
+      (λ b. line-bad TableReason.Id (Fault.id (contract-in c a) (denied (id-good (lines-of earlier) (c .id)) (fresh-test earlier (c .id)) b))))
+      (λ a. line-bad TableReason.Field (Fault.field (denied (fields-good c) (fields-test c) a)))
+
+  pub line-opened : (earlier : List Contract) (c : Contract) → Good shift keys earlier c → open-line shift keys (lines-of earlier) c ≡ LineAnswer.Opened (its-line shift keys c)
+  unfolding open-line opened-with
+  line-opened earlier c g =
+      rw (fields-test c (g .fields), fresh-test earlier (c .id) (g .id), le-leb _ _ (g .cap), true-le (g .moves), inside-test _ _ _ (g .inside))
+
+  pub line-refused : (earlier : List Contract) (c : Contract) {why : TableReason} → Fault shift keys earlier c why → open-line shift keys (lines-of earlier) c ≡ LineAnswer.Refused why
+  unfolding open-line opened-with
+  line-refused earlier c (Fault.field f) = rw (refuted (fields-good c) (contract-in c) f)
+  line-refused earlier c (Fault.id a f) = rw (fields-test c a, refuted (id-good (lines-of earlier) (c .id)) (fresh-in earlier (c .id)) f)
+  line-refused earlier c (Fault.exponent a b f) = rw (fields-test c a, fresh-test earlier (c .id) b, lt-leb _ _ f)
+  line-refused earlier c (Fault.half-move a b d f) = rw (fields-test c a, fresh-test earlier (c .id) b, le-leb _ _ d, false-le f)
+  line-refused earlier c (Fault.limit a b d e f) =
+      let t = its-terms shift keys c in
+      let m = market-of c in
+      let k = its-corridor shift keys c in
+      rw (fields-test c a, fresh-test earlier (c .id) b, le-leb _ _ d, true-le e, refuted (inside-bounds t m k) (inside-in t m k) f)
