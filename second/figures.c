@@ -1,0 +1,868 @@
+/*
+ * figures.c: runs every figure of the paper and every decided example through the engine and the program,
+ * and compares with the answers stated there. The labels A1 to B11 are those of the written readings.
+ */
+#include "corridor.h"
+#include "draft.h"
+#include "program.h"
+
+#include <inttypes.h>
+#include <stdio.h>
+#include <stdlib.h>
+#include <string.h>
+
+enum { TEXT_BYTES = 2048, INPUT_BYTES = 4096 };
+
+typedef struct { char text[TEXT_BYTES]; } Text;
+
+static int passed;
+static int failed;
+
+/* ---- Checking ---- */
+
+static void check_number(const char *name, int64_t seen, int64_t expected)
+{
+    if (seen == expected) {
+        passed++;
+    } else {
+        failed++;
+        printf("failed: %s: saw %" PRId64 ", expected %" PRId64 "\n", name, seen, expected);
+    }
+}
+
+static void check_text(const char *name, const char *seen, const char *expected)
+{
+    if (strcmp(seen, expected) == 0) {
+        passed++;
+    } else {
+        failed++;
+        printf("failed: %s: saw\n%s\nexpected\n%s\n", name, seen, expected);
+    }
+}
+
+static void check_bounds(const char *name, Bounds seen, int64_t lower, int64_t upper)
+{
+    check_number(name, seen.lower.steps, lower);
+    check_number(name, seen.upper.steps, upper);
+}
+
+/* ---- Tables ---- */
+
+/* The paper's sample table: one key of rate 0 and contract 7. */
+static TableDraft sample(void)
+{
+    TableDraft draft = {
+        .header = {[HEADER_SESSION_END] = 1000, [HEADER_HOLD] = 60, [HEADER_MOST_SHIFTS] = 2,
+                   [HEADER_NEAR_SHARE] = 50000, [HEADER_SHIFT_SHARE] = 500000},
+        .keys = {{365, 0}},
+        .contracts = {{1000, 1000, 1, 100000, 200000, 300000, 500000, 90, 7, FLAG_WATCHED}},
+    };
+    draft_counts(&draft, 1, 1);
+    return draft;
+}
+
+/* The sample with a second contract 8 alike and 16 shifts. */
+static TableDraft sample_of_two(void)
+{
+    TableDraft draft = sample();
+    memcpy(draft.contracts[1], draft.contracts[0], sizeof draft.contracts[0]);
+    draft.contracts[1][CONTRACT_ID] = 8;
+    draft.header[HEADER_MOST_SHIFTS] = 16;
+    draft_counts(&draft, 1, 2);
+    return draft;
+}
+
+/* One contract with the stated price, level 1 half-width (by its spot) and width share, at exponent 10^8. */
+static TableDraft sample_with_growth(int32_t settlement, uint32_t half_width, uint32_t width_share, uint32_t flags)
+{
+    TableDraft draft = sample();
+    draft.keys[0][KEY_RATE] = 100000;
+    draft.contracts[0][CONTRACT_SETTLEMENT] = (uint32_t)settlement;
+    draft.contracts[0][CONTRACT_SPOT] = 10 * half_width;
+    draft.contracts[0][CONTRACT_WIDTH_SHARE] = width_share;
+    draft.contracts[0][CONTRACT_DAYS_LEFT] = 365;
+    draft.contracts[0][CONTRACT_FLAGS] = flags;
+    return draft;
+}
+
+/* The paper's floor figure: price 30, half-width 30, no growth. */
+static TableDraft sample_near_floor(void)
+{
+    TableDraft draft = sample_with_growth(30, 30, 900000, FLAG_WATCHED);
+    draft.keys[0][KEY_RATE] = 0;
+    return draft;
+}
+
+static TableAnswer open_draft(const TableDraft *draft, Session *session)
+{
+    uint8_t bytes[LONGEST_TABLE];
+    return corridor_open(bytes, draft_write_table(draft, bytes), session);
+}
+
+static Session opened(const TableDraft *draft)
+{
+    Session session;
+    if (open_draft(draft, &session).kind == REFUSED) {
+        printf("failed: a table of the figures was refused\n");
+        exit(EXIT_FAILURE);
+    }
+    return session;
+}
+
+static void check_table_answer(const char *name, TableAnswer answer, Refusal reason, uint32_t line)
+{
+    check_number(name, answer.kind, REFUSED);
+    check_number(name, answer.reason, reason);
+    check_number(name, answer.line, line);
+}
+
+static void check_table_refused(const char *name, const TableDraft *draft, Refusal reason, uint32_t line)
+{
+    Session session;
+    check_table_answer(name, open_draft(draft, &session), reason, line);
+}
+
+static void check_table_opens(const char *name, const TableDraft *draft)
+{
+    Session session;
+    check_number(name, open_draft(draft, &session).kind, ACCEPTED);
+}
+
+/* ---- Events ---- */
+
+static void add_to(Text *text, const char *more)
+{
+    strncat(text->text, more, TEXT_BYTES - strlen(text->text) - 1);
+}
+
+/* Gives the events to the session; the text has one line a shift and one a refusal. */
+static Text give(Session *session, const EventDraft *events, size_t count)
+{
+    Text text = {""};
+    for (size_t i = 0; i < count; i++) {
+        uint8_t bytes[EVENT_BYTES];
+        char line[64];
+        EventAnswer answer;
+        corridor_event(session, bytes, draft_write_event(&events[i], bytes), &answer);
+        if (answer.kind == REFUSED) {
+            snprintf(line, sizeof line, "R %d\n", (int)answer.reason);
+            add_to(&text, line);
+            continue;
+        }
+        for (uint32_t k = 0; k < answer.shift_count; k++) {
+            const Shift *shift = &answer.shifts[k];
+            snprintf(line, sizeof line, "%" PRIu32 " %c %" PRIu32 "\n", shift->second.seconds,
+                     shift->side == SIDE_UP ? 'U' : 'D', shift->id);
+            add_to(&text, line);
+        }
+    }
+    return text;
+}
+
+#define EVENTS(...) (const EventDraft[]){__VA_ARGS__}, sizeof((EventDraft[]){__VA_ARGS__}) / sizeof(EventDraft)
+
+static void check_events(const char *name, Session *session, const char *expected, const EventDraft *events,
+                         size_t count)
+{
+    check_text(name, give(session, events, count).text, expected);
+}
+
+static void check_session(const char *name, const TableDraft *draft, const char *expected, const EventDraft *events,
+                          size_t count)
+{
+    Session session = opened(draft);
+    check_events(name, &session, expected, events, count);
+}
+
+/* A refused event must leave every byte of the session as it stood. */
+static void check_event_refused(const char *name, Session *session, EventDraft event, Refusal reason)
+{
+    uint8_t bytes[EVENT_BYTES];
+    Session before;
+    EventAnswer answer;
+    memcpy(&before, session, sizeof before);
+    corridor_event(session, bytes, draft_write_event(&event, bytes), &answer);
+    check_number(name, answer.kind, REFUSED);
+    check_number(name, answer.reason, reason);
+    check_number(name, memcmp(&before, session, sizeof before), 0);
+}
+
+/* ---- The program ---- */
+
+static Text program_text(const uint8_t *bytes, size_t length)
+{
+    Text text = {""};
+    FILE *input = tmpfile();
+    FILE *output = tmpfile();
+    if (input == NULL || output == NULL || fwrite(bytes, 1, length, input) != length) {
+        printf("failed: no temporary files\n");
+        exit(EXIT_FAILURE);
+    }
+    rewind(input);
+    check_number("program ends well", program_run(input, output), true);
+    rewind(output);
+    size_t printed = fread(text.text, 1, TEXT_BYTES - 1, output);
+    text.text[printed] = '\0';
+    fclose(input);
+    fclose(output);
+    return text;
+}
+
+/* Runs the program on a table, events and a tail of further bytes. */
+static void check_program(const char *name, const TableDraft *draft, size_t tail, const char *expected,
+                          const EventDraft *events, size_t count)
+{
+    uint8_t bytes[INPUT_BYTES] = {0};
+    size_t length = draft_write_table(draft, bytes);
+    for (size_t i = 0; i < count; i++) {
+        length += draft_write_event(&events[i], bytes + length);
+    }
+    check_text(name, program_text(bytes, length + tail).text, expected);
+}
+
+/* ---- Figures of the paper: opening numbers ---- */
+
+static void figures_of_divisions(void)
+{
+    check_number("floor 7/2", floor_division(7, 2), 3);
+    check_number("floor -7/2", floor_division(-7, 2), -4);
+    check_number("floor -8/2", floor_division(-8, 2), -4);
+    check_number("floor -1/2", floor_division(-1, 2), -1);
+    check_number("floor 0/2", floor_division(0, 2), 0);
+    check_number("ceiling 7/2", ceiling_division(7, 2), 4);
+    check_number("ceiling -7/2", ceiling_division(-7, 2), -3);
+    check_number("ceiling 8/2", ceiling_division(8, 2), 4);
+    check_number("ceiling 1/2", ceiling_division(1, 2), 1);
+    check_number("ceiling -1/2", ceiling_division(-1, 2), 0);
+}
+
+static void figures_of_rates(void)
+{
+    Keys falling = {2, {{{30}, {100000}}, {{90}, {70001}}}};
+    check_number("rate at 31 days", corridor_rate(&falling, (Days){31}).millionths, 99500);
+    check_number("rate at 30 days", corridor_rate(&falling, (Days){30}).millionths, 100000);
+    check_number("rate at 10 days", corridor_rate(&falling, (Days){10}).millionths, 100000);
+    check_number("rate at 0 days", corridor_rate(&falling, (Days){0}).millionths, 100000);
+    check_number("rate at 90 days", corridor_rate(&falling, (Days){90}).millionths, 70001);
+    check_number("rate at 91 days", corridor_rate(&falling, (Days){91}).millionths, 70001);
+
+    Keys rising = {3, {{{10}, {0}}, {{13}, {10}}, {{20}, {17}}}};
+    check_number("rising rate at 12 days", corridor_rate(&rising, (Days){12}).millionths, 6);
+    check_number("rate at the middle key", corridor_rate(&rising, (Days){13}).millionths, 10);
+    check_number("rate after the middle key", corridor_rate(&rising, (Days){14}).millionths, 11);
+}
+
+static void figures_of_factors(void)
+{
+    check_number("y at 92,500, 45 days", corridor_exponent((Millionths){92500}, (Days){45}).billionths, 11404109);
+    check_number("y at 100,000, 365 days", corridor_exponent((Millionths){100000}, (Days){365}).billionths, 100000000);
+    check_number("y beyond 32 bits", corridor_exponent((Millionths){1000000}, (Days){3650}).billionths, 10000000000);
+    Billionths up = corridor_up_factor((Billionths){100000000});
+    check_number("up factor", up.billionths, 1105170916);
+    check_number("down factor", corridor_down_factor(up).billionths, 904837419);
+    check_number("up factor at 0", corridor_up_factor((Billionths){0}).billionths, 1000000000);
+    check_number("down factor at 0", corridor_down_factor((Billionths){1000000000}).billionths, 1000000000);
+}
+
+static void figures_of_bounds(void)
+{
+    TableDraft draft = sample_with_growth(1000, 100, 500000, FLAG_WATCHED);
+    Session session = opened(&draft);
+    check_bounds("bounds at 1,000", corridor_interest_bounds(&session, 7).bounds, 814, 1216);
+    check_bounds("limits at 1,000", corridor_limits(&session, 7).bounds, 900, 1100);
+    check_number("centre", session.lines[0].centre.steps, 1000);
+    check_number("half-width 1", session.lines[0].half_width[0].steps, 100);
+    check_number("half-width 2", session.lines[0].half_width[1].steps, 200);
+    check_number("half-width 3", session.lines[0].half_width[2].steps, 300);
+
+    draft.contracts[0][CONTRACT_WIDTH_SHARE] = 1000000;
+    check_table_refused("lower limit 799", &draft, REFUSED_LIMITS, 1);
+
+    draft = sample_with_growth(-1000, 100, 500000, FLAG_WATCHED | FLAG_PERMITS_NEGATIVE);
+    session = opened(&draft);
+    check_bounds("bounds at -1,000", corridor_interest_bounds(&session, 7).bounds, -1216, -814);
+    check_bounds("limits at -1,000", corridor_limits(&session, 7).bounds, -1100, -900);
+    draft.contracts[0][CONTRACT_WIDTH_SHARE] = 1000000;
+    check_table_refused("upper limit -799", &draft, REFUSED_LIMITS, 1);
+
+    draft = sample();
+    draft.contracts[0][CONTRACT_WIDTH_SHARE] = 1000000;
+    session = opened(&draft);
+    check_bounds("limits equal to the bounds", corridor_limits(&session, 7).bounds, 900, 1100);
+
+    draft = sample_with_growth(-10, 100, 500000, FLAG_WATCHED | FLAG_PERMITS_NEGATIVE);
+    session = opened(&draft);
+    check_bounds("bounds at -10", corridor_interest_bounds(&session, 7).bounds, -122, 82);
+    check_bounds("limits at -10", corridor_limits(&session, 7).bounds, -61, 41);
+}
+
+static void figures_of_normal_price(void)
+{
+    TableDraft draft = sample();
+    draft.contracts[0][CONTRACT_SPOT] = (uint32_t)-2001;
+    draft.contracts[0][CONTRACT_RATE_2] = 100001;
+    Session session = opened(&draft);
+    check_number("size of a negative spot, rounded up", session.lines[0].half_width[0].steps, 201);
+    check_number("ceiling at level 2", session.lines[0].half_width[1].steps, 201);
+    draft.contracts[0][CONTRACT_LEAST_PRICE] = 5000;
+    session = opened(&draft);
+    check_number("least price", session.lines[0].half_width[0].steps, 500);
+}
+
+static void figures_of_floor(void)
+{
+    TableDraft draft = sample_near_floor();
+    Session session = opened(&draft);
+    Line *line = &session.lines[0];
+    check_bounds("limits at 30", line->limits, 3, 57);
+    check_number("half-move", line->half_move.steps, 7);
+    check_number("not frozen", line->lower_frozen, false);
+    check_events("down to the floor", &session, "61 D 7\n", EVENTS(draft_ask(1, 7, 5), draft_tick(61)));
+    check_number("centre after down", line->centre.steps, 23);
+    check_number("half-width after down", line->half_width[0].steps, 37);
+    check_number("half-width 3 after down", line->half_width[2].steps, 97);
+    check_number("lower bound after down", line->interest.lower.steps, -14);
+    check_number("upper bound after down", line->interest.upper.steps, 60);
+    check_bounds("limits after down", line->limits, 1, 57);
+    check_number("frozen", line->lower_frozen, true);
+}
+
+/* ---- Figures of the paper: events and program ---- */
+
+/* The paper's sample input, laid out byte by byte at the paper's offsets, apart from the draft's code. */
+static const uint8_t SAMPLE_TABLE[] = {
+    1, 0, 0, 0, 1, 0, 0, 0, 48, 0, 0, 0, 1, 0, 0, 0, 40, 0, 0, 0,
+    0xe8, 3, 0, 0, 60, 0, 0, 0, 2, 0, 0, 0, 0x50, 0xc3, 0, 0, 0x20, 0xa1, 7, 0,
+    0x6d, 1, 0, 0, 0, 0, 0, 0,
+    0xe8, 3, 0, 0, 0xe8, 3, 0, 0, 1, 0, 0, 0, 0xa0, 0x86, 1, 0, 0x40, 0x0d, 3, 0,
+    0xe0, 0x93, 4, 0, 0x20, 0xa1, 7, 0, 90, 0, 0, 0, 7, 0, 0, 0, 2, 0, 0, 0,
+};
+
+static void figures_of_program(void)
+{
+    TableDraft draft = sample();
+    uint8_t bytes[LONGEST_TABLE];
+    check_number("sample length", (int64_t)draft_write_table(&draft, bytes), (int64_t)sizeof SAMPLE_TABLE);
+    check_number("sample bytes", memcmp(bytes, SAMPLE_TABLE, sizeof SAMPLE_TABLE), 0);
+    check_program("sample", &draft, 0, "70 U 7\n160 U 7\n7 950 1150 900 1200\n",
+                  EVENTS(draft_bid(10, 7, 1046), draft_tick(69), draft_tick(70), draft_bid(100, 7, 1093),
+                         draft_empty(200, 7), draft_bid(210, 7, 1150), draft_tick(1000)));
+    check_session("1045 does not press", &draft, "", EVENTS(draft_bid(10, 7, 1045), draft_tick(1000)));
+    check_session("tick at 69 serves nothing", &draft, "", EVENTS(draft_bid(10, 7, 1046), draft_tick(69)));
+    check_session("session end", &draft, "R 10\nR 10\n",
+                  EVENTS(draft_tick(1000), draft_tick(1000), draft_tick(1001), draft_empty(UINT32_MAX, 7)));
+}
+
+static void figures_of_pressure(void)
+{
+    TableDraft draft = sample();
+    check_session("bid beyond the limit presses", &draft, "70 U 7\n", EVENTS(draft_bid(10, 7, 1051), draft_tick(70)));
+    check_session("ask 955 does not press", &draft, "", EVENTS(draft_ask(10, 7, 955), draft_tick(1000)));
+    check_session("ask 954 presses", &draft, "70 D 7\n", EVENTS(draft_ask(10, 7, 954), draft_tick(70)));
+    check_session("ask beyond the limit presses", &draft, "70 D 7\n", EVENTS(draft_ask(10, 7, 949), draft_tick(70)));
+    check_session("a pressing quote keeps the hold", &draft, "70 U 7\n",
+                  EVENTS(draft_bid(10, 7, 1046), draft_bid(50, 7, 1049), draft_quote(60, 7, 1047, 1060),
+                         draft_tick(70)));
+    check_session("from one side to the other", &draft, "110 D 7\n",
+                  EVENTS(draft_bid(10, 7, 1046), draft_ask(50, 7, 951), draft_tick(110)));
+    draft.contracts[0][CONTRACT_FLAGS] = 0;
+    check_session("not under watch", &draft, "", EVENTS(draft_bid(10, 7, 1100), draft_tick(1000)));
+}
+
+/* After two up shifts and one down: centre, half-widths, bounds and limits by hand from the paper. */
+static void figures_of_shifts(void)
+{
+    TableDraft draft = sample_of_two();
+    draft.contracts[1][CONTRACT_FLAGS] = 0;
+    Session session = opened(&draft);
+    check_events("up, up, down", &session, "70 U 7\n160 U 7\n260 D 7\n",
+                 EVENTS(draft_bid(10, 7, 1046), draft_bid(100, 7, 1093), draft_ask(200, 7, 955), draft_tick(260)));
+    for (int i = 0; i < 2; i++) {
+        const Line *line = &session.lines[i];
+        check_number("centre after three shifts", line->centre.steps, 1025);
+        check_number("half-width 1 after three shifts", line->half_width[0].steps, 175);
+        check_number("half-width 2 after three shifts", line->half_width[1].steps, 275);
+        check_bounds("bounds after three shifts", line->interest, 850, 1200);
+        check_bounds("limits after three shifts", line->limits, 900, 1150);
+    }
+}
+
+/* With growth, the bounds are worked out from the market bounds, not moved by twice the half-move. */
+static void figures_of_shifts_with_growth(void)
+{
+    TableDraft draft = sample_with_growth(-10, 100, 500000, FLAG_WATCHED | FLAG_PERMITS_NEGATIVE);
+    Session session = opened(&draft);
+    check_events("up and down below zero", &session, "61 U 7\n122 D 7\n",
+                 EVENTS(draft_bid(1, 7, 41), draft_ask(62, 7, -61), draft_tick(122)));
+    check_number("the sign of the settlement holds", session.lines[0].centre.steps, -10);
+    check_bounds("bounds below zero", corridor_interest_bounds(&session, 7).bounds, -177, 127);
+    check_bounds("limits below zero", corridor_limits(&session, 7).bounds, -116, 86);
+}
+
+static void figures_of_refused_events(void)
+{
+    TableDraft draft = sample();
+    check_session("a refused event serves nothing", &draft, "R 13\n70 U 7\n",
+                  EVENTS(draft_bid(10, 7, 1046), draft_empty(80, 9), draft_tick(70)));
+    Session session = opened(&draft);
+    check_events("start", &session, "", EVENTS(draft_bid(10, 7, 1046)));
+    check_event_refused("after the end", &session, draft_tick(1001), REFUSED_AFTER_END);
+    check_event_refused("before the clock", &session, draft_tick(9), REFUSED_BEFORE_CLOCK);
+    check_event_refused("unknown id", &session, draft_empty(100, 8), REFUSED_UNKNOWN_ID);
+    check_event_refused("crossed", &session, draft_quote(100, 7, 1000, 999), REFUSED_CROSSED);
+    check_event_refused("tick with an id", &session, (EventDraft){{100, 7, 4, 0, 0}}, REFUSED_EVENT_FORM);
+    check_event_refused("tick with a bid", &session, (EventDraft){{100, 0, 4, 1, 0}}, REFUSED_EVENT_FORM);
+    check_event_refused("tick with an ask", &session, (EventDraft){{100, 0, 4, 0, 1}}, REFUSED_EVENT_FORM);
+    check_event_refused("absent bid not 0", &session, (EventDraft){{100, 7, 2, 1, 1000}}, REFUSED_EVENT_FORM);
+    check_event_refused("absent ask not 0", &session, (EventDraft){{100, 7, 0, 0, 1}}, REFUSED_EVENT_FORM);
+    check_event_refused("bid too high", &session, draft_bid(100, 7, 2000000001), REFUSED_EVENT_FORM);
+    check_event_refused("bid too low", &session, draft_bid(100, 7, -2000000001), REFUSED_EVENT_FORM);
+    check_event_refused("ask too high", &session, draft_ask(100, 7, 2000000001), REFUSED_EVENT_FORM);
+    check_event_refused("ask too low", &session, draft_ask(100, 7, -2000000001), REFUSED_EVENT_FORM);
+    check_events("widest quote", &session, "", EVENTS(draft_quote(11, 7, -2000000000, 2000000000)));
+
+    uint8_t bytes[EVENT_BYTES + 1] = {12};
+    for (size_t length = 0; length <= sizeof bytes; length++) {
+        EventAnswer answer;
+        corridor_event(&session, bytes, length, &answer);
+        check_number("event not 20 bytes", answer.reason, length == EVENT_BYTES ? 13 : REFUSED_EVENT_FORM);
+    }
+}
+
+/* ---- Refusals of the table ---- */
+
+static void figures_of_header(void)
+{
+    static const struct { uint32_t field; uint32_t least; uint32_t most; } ranges[] = {
+        {HEADER_CONTRACT_COUNT, 1, 32}, {HEADER_KEY_COUNT, 1, 16}, {HEADER_SESSION_END, 1, 172800},
+        {HEADER_HOLD, 1, 3600}, {HEADER_MOST_SHIFTS, 0, 16}, {HEADER_NEAR_SHARE, 1, 500000},
+        {HEADER_SHIFT_SHARE, 1, 1000000},
+    };
+    uint8_t bytes[LONGEST_TABLE];
+    Session session;
+    for (size_t i = 0; i < sizeof ranges / sizeof ranges[0]; i++) {
+        /* The header alone: a value in range goes on to the length, refusal 1; any other is refusal 3. */
+        const uint32_t least = ranges[i].least;
+        const uint32_t most = ranges[i].most;
+        const uint32_t values[] = {least, most, least - 1, most + 1, UINT32_MAX};
+        for (size_t k = 0; k < sizeof values / sizeof values[0]; k++) {
+            TableDraft draft = sample();
+            draft.header[ranges[i].field] = values[k];
+            draft_write_table(&draft, bytes);
+            TableAnswer answer = corridor_open(bytes, HEADER_BYTES, &session);
+            check_table_answer("header range", answer, k < 2 ? REFUSED_LENGTH_OR_OFFSETS : REFUSED_HEADER, 0);
+        }
+    }
+    TableDraft draft = sample();
+    draft.header[HEADER_KEYS_OFFSET] = 41;
+    check_table_refused("offset of keys", &draft, REFUSED_LENGTH_OR_OFFSETS, 0);
+    draft = sample();
+    draft.header[HEADER_CONTRACTS_OFFSET] = 47;
+    check_table_refused("offset of contracts", &draft, REFUSED_LENGTH_OR_OFFSETS, 0);
+    draft = sample();
+    draft.header[HEADER_EDITION] = 2;
+    check_table_refused("edition 2", &draft, REFUSED_EDITION, 0);
+}
+
+static void figures_of_keys(void)
+{
+    static const struct { uint32_t days; uint32_t rate; bool good; } seconds[] = {
+        {31, 0, true}, {3650, 1000000, true}, {30, 0, false}, {29, 0, false}, {0, 0, false}, {3651, 0, false},
+        {UINT32_MAX, 0, false}, {31, 1000001, false}, {31, UINT32_MAX, false},
+    };
+    for (size_t i = 0; i < sizeof seconds / sizeof seconds[0]; i++) {
+        TableDraft draft = sample();
+        draft_counts(&draft, 2, 1);
+        draft.keys[0][KEY_DAYS] = 30;
+        draft.keys[1][KEY_DAYS] = seconds[i].days;
+        draft.keys[1][KEY_RATE] = seconds[i].rate;
+        draft.contracts[0][CONTRACT_DAYS_LEFT] = 30;
+        if (seconds[i].good) {
+            check_table_opens("second key", &draft);
+        } else {
+            check_table_refused("second key", &draft, REFUSED_KEY, 2);
+        }
+    }
+    TableDraft draft = sample();
+    draft.keys[0][KEY_DAYS] = 0;
+    draft.contracts[0][CONTRACT_ID] = 0;
+    check_table_refused("keys come before contracts", &draft, REFUSED_KEY, 1);
+}
+
+static void figures_of_contracts(void)
+{
+    static const struct { uint32_t field; uint32_t good; uint32_t bad; } edges[] = {
+        {CONTRACT_SETTLEMENT, 1, 0}, {CONTRACT_SETTLEMENT, 2, (uint32_t)-1},
+        {CONTRACT_SETTLEMENT, 100000000, 100000001},
+        {CONTRACT_SPOT, 100000000, 100000001}, {CONTRACT_SPOT, (uint32_t)-100000000, (uint32_t)-100000001},
+        {CONTRACT_LEAST_PRICE, 1, 0}, {CONTRACT_LEAST_PRICE, 100000000, 100000001}, {CONTRACT_RATE_1, 200000, 200001},
+        {CONTRACT_RATE_1, 100000, 0}, {CONTRACT_RATE_2, 100000, 99999}, {CONTRACT_RATE_2, 300000, 300001},
+        {CONTRACT_RATE_3, 1000000, 1000001}, {CONTRACT_WIDTH_SHARE, 0, 1000001}, {CONTRACT_DAYS_LEFT, 3650, 3651},
+        {CONTRACT_DAYS_LEFT, 0, UINT32_MAX}, {CONTRACT_FLAGS, 3, 4}, {CONTRACT_FLAGS, 0, 0x80000002},
+    };
+    for (size_t i = 0; i < sizeof edges / sizeof edges[0]; i++) {
+        TableDraft draft = sample_of_two();
+        draft.contracts[1][edges[i].field] = edges[i].good;
+        check_table_opens("contract edge", &draft);
+        draft.contracts[1][edges[i].field] = edges[i].bad;
+        check_table_refused("contract edge", &draft, REFUSED_CONTRACT, 2);
+    }
+    TableDraft draft = sample_of_two();
+    draft.contracts[0][CONTRACT_SETTLEMENT] = (uint32_t)-100000000;
+    draft.contracts[0][CONTRACT_FLAGS] = 3;
+    check_table_opens("lowest settlement", &draft);
+    draft.contracts[0][CONTRACT_SETTLEMENT] = (uint32_t)-100000001;
+    check_table_refused("below the lowest settlement", &draft, REFUSED_CONTRACT, 1);
+}
+
+static void figures_of_ids(void)
+{
+    TableDraft draft = sample_of_two();
+    draft.contracts[1][CONTRACT_ID] = 7;
+    check_table_refused("id used before", &draft, REFUSED_ID, 2);
+    draft.contracts[1][CONTRACT_ID] = 0;
+    check_table_refused("id 0", &draft, REFUSED_ID, 2);
+    draft.contracts[0][CONTRACT_ID] = UINT32_MAX;
+    draft.contracts[1][CONTRACT_ID] = 1;
+    check_table_opens("largest id", &draft);
+
+    /* Each line is gone through with 5 to 9 before the next: 9 on line 1 comes before 5 on line 2. */
+    draft = sample_of_two();
+    draft.keys[0][KEY_RATE] = 100000;
+    draft.contracts[0][CONTRACT_DAYS_LEFT] = 365;
+    draft.contracts[0][CONTRACT_WIDTH_SHARE] = 1000000;
+    draft.contracts[1][CONTRACT_FLAGS] = 4;
+    check_table_refused("line by line", &draft, REFUSED_LIMITS, 1);
+    draft.header[HEADER_SHIFT_SHARE] = 1;
+    check_table_refused("8 before 9", &draft, REFUSED_HALF_MOVE, 1);
+    draft.contracts[0][CONTRACT_DAYS_LEFT] = 3650;
+    check_table_refused("7 before 8", &draft, REFUSED_EXPONENT, 1);
+    draft.contracts[0][CONTRACT_ID] = 0;
+    check_table_refused("6 before 7", &draft, REFUSED_ID, 1);
+    draft.contracts[0][CONTRACT_LEAST_PRICE] = 0;
+    check_table_refused("5 before 6", &draft, REFUSED_CONTRACT, 1);
+}
+
+/* Many ids that crowd together must all be found, each on its own line. */
+static void figures_of_many_ids(void)
+{
+    TableDraft draft = sample();
+    draft_counts(&draft, 1, MOST_LINES);
+    for (uint32_t i = 0; i < MOST_LINES; i++) {
+        memcpy(draft.contracts[i], draft.contracts[0], sizeof draft.contracts[0]);
+        draft.contracts[i][CONTRACT_SETTLEMENT] = 1000 + i;
+        draft.contracts[i][CONTRACT_ID] = 1 + 65536 * i;
+    }
+    Session session = opened(&draft);
+    for (uint32_t i = 0; i < MOST_LINES; i++) {
+        uint32_t id = 1 + 65536 * i;
+        check_number("id found", corridor_limits(&session, id).bounds.upper.steps, 1050 + i);
+        check_number("id not found", corridor_limits(&session, id + 1).kind, REFUSED);
+    }
+}
+
+/* ---- Readings A ---- */
+
+static void readings_of_caps(void)
+{
+    TableDraft draft = sample();
+    draft.header[HEADER_SHIFT_SHARE] = 1;
+    check_table_refused("A1 half-move 0", &draft, REFUSED_HALF_MOVE, 1);
+    draft.header[HEADER_SHIFT_SHARE] = 19999;
+    check_table_refused("A1 half-move just under 1", &draft, REFUSED_HALF_MOVE, 1);
+    draft.header[HEADER_SHIFT_SHARE] = 20000;
+    check_table_opens("A1 half-move 1", &draft);
+
+    draft = sample();
+    draft.keys[0][KEY_RATE] = 50000;
+    draft.contracts[0][CONTRACT_DAYS_LEFT] = 3650;
+    check_table_opens("A1 exponent at the cap", &draft);
+    draft.keys[0][KEY_RATE] = 50001;
+    check_table_refused("A1 exponent over the cap", &draft, REFUSED_EXPONENT, 1);
+
+    draft = sample_with_growth(10, 30, 1000000, FLAG_WATCHED);
+    check_table_refused("A2 9 before the floor", &draft, REFUSED_LIMITS, 1);
+}
+
+static void readings_of_freezing(void)
+{
+    TableDraft draft = sample_near_floor();
+    draft.contracts[0][CONTRACT_WIDTH_SHARE] = 966667;
+    Session session = opened(&draft);
+    check_bounds("A3 lower limit exactly 1", corridor_limits(&session, 7).bounds, 1, 59);
+    check_number("A3 not frozen", session.lines[0].lower_frozen, false);
+    check_events("A3 it may call", &session, "61 D 7\n", EVENTS(draft_ask(1, 7, 1), draft_tick(1000)));
+    check_bounds("A3 stays at 1", corridor_limits(&session, 7).bounds, 1, 59);
+    check_number("A3 now frozen", session.lines[0].lower_frozen, true);
+
+    draft = sample_near_floor();
+    draft.contracts[0][CONTRACT_SETTLEMENT] = 10;
+    session = opened(&draft);
+    check_bounds("A13 frozen at opening", corridor_limits(&session, 7).bounds, 1, 37);
+    check_bounds("A13 bounds", corridor_interest_bounds(&session, 7).bounds, -20, 40);
+    check_number("A13 frozen", session.lines[0].lower_frozen, true);
+    check_events("A13 no hold below", &session, "", EVENTS(draft_ask(1, 7, -5), draft_tick(1000)));
+
+    draft.contracts[0][CONTRACT_FLAGS] |= FLAG_PERMITS_NEGATIVE;
+    session = opened(&draft);
+    check_bounds("negatives permitted: no floor", corridor_limits(&session, 7).bounds, -17, 37);
+}
+
+static void readings_of_order(void)
+{
+    Session session;
+    uint8_t bytes[LONGEST_TABLE];
+    TableDraft draft = sample();
+    draft.header[HEADER_SESSION_END] = 0;
+    draft_write_table(&draft, bytes);
+    check_table_answer("A4 44 bytes, end 0", corridor_open(bytes, 44, &session), REFUSED_HEADER, 0);
+    draft.header[HEADER_EDITION] = 9;
+    draft_write_table(&draft, bytes);
+    check_table_answer("A4 39 bytes, edition 9", corridor_open(bytes, 39, &session), REFUSED_LENGTH_OR_OFFSETS, 0);
+    check_table_answer("A4 45 bytes, edition 9", corridor_open(bytes, 45, &session), REFUSED_EDITION, 0);
+    check_table_answer("no bytes", corridor_open(bytes, 0, &session), REFUSED_LENGTH_OR_OFFSETS, 0);
+    size_t length = sizeof SAMPLE_TABLE;
+    memcpy(bytes, SAMPLE_TABLE, length);
+    bytes[length] = 0;
+    check_table_answer("A12 one byte more", corridor_open(bytes, length + 1, &session), REFUSED_LENGTH_OR_OFFSETS, 0);
+    check_table_answer("one byte less", corridor_open(bytes, length - 1, &session), REFUSED_LENGTH_OR_OFFSETS, 0);
+
+    draft = sample();
+    check_session("A5 unknown id before the clock", &draft, "R 11\n", EVENTS(draft_tick(5), draft_empty(4, 9)));
+    check_session("A5 wrong flags after the end", &draft, "R 12\n", EVENTS({{1001, 7, 8, 0, 0}}));
+    check_session("A5 bid out of range, absent ask", &draft, "R 12\n", EVENTS({{1, 7, 1, 2100000000, 7}}));
+    check_session("A5 bid out of range", &draft, "R 12\n", EVENTS({{1, 7, 1, 2100000000, 0}}));
+    check_session("A5 flags 5, 6, 7, 8, all", &draft, "R 12\nR 12\nR 12\nR 12\nR 12\n",
+                  EVENTS({{1, 0, 5, 0, 0}}, {{1, 0, 6, 0, 0}}, {{1, 0, 7, 0, 0}}, {{1, 7, 8, 0, 0}},
+                         {{1, 7, UINT32_MAX, 0, 0}}));
+    check_session("A5 id 0", &draft, "R 13\n", EVENTS(draft_empty(1, 0)));
+    check_session("A5 bid = ask", &draft, "", EVENTS(draft_quote(1, 7, 1000, 1000)));
+    check_session("13 before 14", &draft, "R 13\n", EVENTS(draft_quote(1, 9, 1000, 999)));
+}
+
+static void readings_of_program(void)
+{
+    TableDraft draft = sample();
+    check_program("A8 dues after the last event", &draft, 0, "7 950 1050 900 1100\n", EVENTS(draft_bid(10, 7, 1046)));
+    check_program("A8 refusals in place", &draft, 0, "R 11\n70 U 7\nR 10\n7 950 1100 900 1150\n",
+                  EVENTS(draft_bid(10, 7, 1046), draft_tick(9), draft_tick(70), draft_tick(1001)));
+    check_program("A8 no events", &draft, 0, "7 950 1050 900 1100\n", NULL, 0);
+    check_program("A12 one byte after the table", &draft, 1, "R 12\n7 950 1050 900 1100\n", NULL, 0);
+    check_program("A8 cut last event", &draft, 19, "70 U 7\nR 12\n7 950 1100 900 1150\n",
+                  EVENTS(draft_bid(10, 7, 1046), draft_tick(70)));
+    check_text("A8 empty input", program_text(SAMPLE_TABLE, 0).text, "T 1 0\n");
+    check_text("A8 39 bytes", program_text(SAMPLE_TABLE, 39).text, "T 1 0\n");
+    check_text("A8 header only", program_text(SAMPLE_TABLE, 40).text, "T 1 0\n");
+    check_text("A8 one byte short", program_text(SAMPLE_TABLE, sizeof SAMPLE_TABLE - 1).text, "T 1 0\n");
+
+    draft.header[HEADER_CONTRACTS_OFFSET] = 68;
+    check_program("A12 wrong offset", &draft, 0, "T 1 0\n", EVENTS(draft_tick(1)));
+    draft = sample();
+    draft.contracts[0][CONTRACT_FLAGS] = 4;
+    check_program("refused table, nothing more", &draft, 0, "T 5 1\n", EVENTS(draft_tick(1), draft_tick(0)));
+    uint8_t header[HEADER_BYTES];
+    memcpy(header, SAMPLE_TABLE, sizeof header);
+    header[7] = 0x80;
+    check_text("wild count", program_text(header, sizeof header).text, "T 3 0\n");
+}
+
+/* More events than the program reads at once: one that calls a shift lies beyond the first chunks. */
+static void figures_of_long_input(void)
+{
+    enum { TICKS = 10000 };
+    static uint8_t bytes[sizeof SAMPLE_TABLE + (TICKS + 2) * EVENT_BYTES + 1];
+    size_t length = sizeof SAMPLE_TABLE;
+    memcpy(bytes, SAMPLE_TABLE, length);
+    EventDraft bid = draft_bid(10, 7, 1046);
+    length += draft_write_event(&bid, bytes + length);
+    for (uint32_t i = 0; i < TICKS; i++) {
+        EventDraft tick = draft_tick(11);
+        length += draft_write_event(&tick, bytes + length);
+    }
+    EventDraft last = draft_tick(70);
+    length += draft_write_event(&last, bytes + length);
+    check_text("long input", program_text(bytes, length + 1).text, "70 U 7\nR 12\n7 950 1100 900 1150\n");
+}
+
+static void readings_of_questions(void)
+{
+    TableDraft draft = sample();
+    Session session = opened(&draft);
+    check_number("below", corridor_place(&session, 7, (Steps){949}), PLACE_BELOW);
+    check_number("lower limit is inside", corridor_place(&session, 7, (Steps){950}), PLACE_INSIDE);
+    check_number("upper limit is inside", corridor_place(&session, 7, (Steps){1050}), PLACE_INSIDE);
+    check_number("above", corridor_place(&session, 7, (Steps){1051}), PLACE_ABOVE);
+    check_number("A10 lowest price", corridor_place(&session, 7, (Steps){INT64_MIN}), PLACE_BELOW);
+    check_number("A10 highest price", corridor_place(&session, 7, (Steps){INT64_MAX}), PLACE_ABOVE);
+    check_number("A10 unknown id", corridor_place(&session, 8, (Steps){1000}), PLACE_UNKNOWN_ID);
+    check_number("A10 id 0", corridor_limits(&session, 0).reason, REFUSED_UNKNOWN_ID);
+    check_number("A10 bounds of an unknown id", corridor_interest_bounds(&session, 8).reason, REFUSED_UNKNOWN_ID);
+    check_events("A10 start a hold", &session, "", EVENTS(draft_bid(10, 7, 1046), draft_tick(69)));
+    check_bounds("A10 questions serve nothing", corridor_limits(&session, 7).bounds, 950, 1050);
+}
+
+/* The widest contract 7 is carried by contract 8, whose limits no quote is too small to press. */
+static void readings_of_widths(void)
+{
+    TableDraft draft = sample_of_two();
+    draft.header[HEADER_SHIFT_SHARE] = 1000000;
+    draft.keys[0][KEY_RATE] = 50000;
+    draft.contracts[1][CONTRACT_FLAGS] |= FLAG_PERMITS_NEGATIVE;
+    const uint32_t largest[CONTRACT_FIELDS] = {100000000, 100000000, 1, 1000000, 1000000, 1000000, 500000, 3650, 7, 3};
+    memcpy(draft.contracts[0], largest, sizeof largest);
+    Session session = opened(&draft);
+    give(&session, EVENTS(draft_bid(0, 8, 2000000000), draft_tick(1000)));
+    check_number("A11 all shifts up", session.shifts_made, 16);
+    check_number("A11 widest bound", corridor_interest_bounds(&session, 7).bounds.upper.steps, 2967698281);
+
+    draft.contracts[0][CONTRACT_SETTLEMENT] = (uint32_t)-100000000;
+    session = opened(&draft);
+    give(&session, EVENTS(draft_ask(0, 8, -2000000000), draft_tick(1000)));
+    check_number("A11 all shifts down", session.shifts_made, 16);
+    check_number("A11 lowest bound", corridor_interest_bounds(&session, 7).bounds.lower.steps, -2967698281);
+}
+
+static void readings_of_zero_width(void)
+{
+    TableDraft draft = sample();
+    draft.contracts[0][CONTRACT_WIDTH_SHARE] = 0;
+    Session session = opened(&draft);
+    check_bounds("A14 limits", corridor_limits(&session, 7).bounds, 1000, 1000);
+    check_session("A14 at the limit", &draft, "", EVENTS(draft_quote(1, 7, 1000, 1000), draft_tick(1000)));
+    check_session("A14 above", &draft, "61 U 7\n", EVENTS(draft_bid(1, 7, 1001), draft_tick(61)));
+    check_session("A14 below", &draft, "61 D 7\n", EVENTS(draft_ask(1, 7, 999), draft_tick(61)));
+}
+
+/* ---- Readings B ---- */
+
+static void readings_of_one_second(void)
+{
+    TableDraft draft = sample_of_two();
+    check_session("B1 same side, same second", &draft, "70 U 7\n130 U 7\n",
+                  EVENTS(draft_bid(10, 8, 1200), draft_bid(10, 7, 1200), draft_tick(130)));
+    check_session("B2 a younger hold of the side", &draft, "70 U 7\n130 U 8\n",
+                  EVENTS(draft_bid(10, 7, 1060), draft_bid(40, 8, 1400), draft_tick(130)));
+    check_session("B3 both sides, same second", &draft, "70 U 8\n70 D 7\n",
+                  EVENTS(draft_bid(10, 8, 1200), draft_ask(10, 7, 900), draft_tick(70)));
+    check_session("the other side's hold goes on", &draft, "70 U 8\n100 D 7\n",
+                  EVENTS(draft_bid(10, 8, 1051), draft_ask(40, 7, 951), draft_tick(110)));
+    check_session("the earliest hold, not the lowest line", &draft, "70 U 8\n",
+                  EVENTS(draft_bid(10, 7, 1046), draft_bid(10, 8, 1046), draft_bid(30, 7, 1000), draft_bid(30, 7, 1046),
+                         draft_tick(70)));
+    draft.header[HEADER_MOST_SHIFTS] = 1;
+    check_session("B3 with most 1", &draft, "70 U 8\n",
+                  EVENTS(draft_bid(10, 8, 1200), draft_ask(10, 7, 900), draft_tick(1000)));
+    draft.contracts[0][CONTRACT_ID] = 8;
+    draft.contracts[1][CONTRACT_ID] = 7;
+    check_session("lines, not ids, give the order", &draft, "70 U 8\n",
+                  EVENTS(draft_bid(10, 7, 1200), draft_bid(10, 8, 1200), draft_tick(70)));
+}
+
+static void readings_of_gaps(void)
+{
+    TableDraft draft = sample_of_two();
+    check_session("B4 several shifts in a gap", &draft, "70 U 7\n130 U 7\n190 U 7\n",
+                  EVENTS(draft_bid(10, 7, 2000000000), draft_tick(200)));
+    check_session("B4 the earlier side first", &draft, "69 D 8\n70 U 7\n129 D 8\n130 U 7\n",
+                  EVENTS(draft_ask(9, 8, -2000000000), draft_bid(10, 7, 2000000000), draft_tick(130)));
+    check_session("B5 due at session end", &draft, "",
+                  EVENTS(draft_bid(940, 7, 1046), draft_tick(999), draft_tick(1000)));
+    check_session("B5 one second before", &draft, "999 U 7\n", EVENTS(draft_bid(939, 7, 1046), draft_tick(1000)));
+    draft.header[HEADER_SESSION_END] = 960;
+    Session session = opened(&draft);
+    Text text = give(&session, EVENTS(draft_bid(10, 7, 2000000000), draft_tick(960)));
+    check_number("B5 fifteen shifts", session.shifts_made, 15);
+    check_number("B5 the last at 910", strstr(text.text, "910 U 7\n") != NULL, true);
+    draft.header[HEADER_SESSION_END] = 1000;
+    session = opened(&draft);
+    give(&session, EVENTS(draft_bid(10, 7, 2000000000), draft_tick(1000)));
+    check_number("sixteen shifts and no more", session.shifts_made, 16);
+}
+
+static void readings_of_holds(void)
+{
+    TableDraft draft = sample_of_two();
+    check_session("B6 empty at the due second", &draft, "70 U 7\n",
+                  EVENTS(draft_bid(10, 7, 1046), draft_empty(70, 7), draft_tick(1000)));
+    check_session("empty one second earlier", &draft, "",
+                  EVENTS(draft_bid(10, 7, 1046), draft_empty(69, 7), draft_tick(1000)));
+    check_session("B7 new pressure on the other side", &draft, "70 U 7\n130 D 8\n",
+                  EVENTS(draft_bid(10, 7, 1046), draft_ask(20, 8, 956), draft_tick(129), draft_tick(130)));
+    check_session("B7 without the shift", &draft, "", EVENTS(draft_ask(20, 8, 956), draft_tick(1000)));
+    check_session("B9 ended and started at 30", &draft, "90 U 7\n",
+                  EVENTS(draft_bid(10, 7, 1046), draft_empty(30, 7), draft_bid(30, 7, 1046), draft_tick(89),
+                         draft_tick(90)));
+    check_session("B10 a served second is not served again", &draft, "70 U 7\n",
+                  EVENTS(draft_bid(10, 7, 1046), draft_tick(70), draft_tick(70)));
+}
+
+static void readings_of_most_shifts(void)
+{
+    TableDraft draft = sample_of_two();
+    draft.header[HEADER_MOST_SHIFTS] = 1;
+    Session session = opened(&draft);
+    check_events("B8 holds vanish", &session, "70 U 7\n",
+                 EVENTS(draft_bid(10, 7, 2000000000), draft_ask(20, 8, 900), draft_tick(70)));
+    for (int side = SIDE_UP; side <= SIDE_DOWN; side++) {
+        for (int i = 0; i < 2; i++) {
+            check_number("B8 no hold exists", session.due[side][i].seconds, NEVER.seconds);
+        }
+    }
+    check_events("B8 no hold starts", &session, "", EVENTS(draft_bid(80, 8, 1500), draft_tick(1000)));
+    draft.header[HEADER_MOST_SHIFTS] = 0;
+    check_session("B8 most 0", &draft, "", EVENTS(draft_bid(10, 7, 1200), draft_ask(10, 8, 900), draft_tick(1000)));
+}
+
+/* Contract 7 stands at the floor; contract 8 calls the down shifts. */
+static void readings_of_frozen_lines(void)
+{
+    TableDraft draft = sample_of_two();
+    TableDraft floor = sample_near_floor();
+    memcpy(draft.contracts[0], floor.contracts[0], sizeof floor.contracts[0]);
+    Session session = opened(&draft);
+    check_events("B11 two down shifts", &session, "70 D 8\n130 D 8\n",
+                 EVENTS(draft_ask(10, 8, 900), draft_ask(11, 7, 1), draft_tick(130)));
+    check_bounds("B11 the limit stays at 1", corridor_limits(&session, 7).bounds, 1, 57);
+    check_bounds("B11 the bounds move", corridor_interest_bounds(&session, 7).bounds, -28, 60);
+    check_number("B11 the centre moves", session.lines[0].centre.steps, 16);
+    check_number("B11 no hold below", session.due[SIDE_DOWN][0].seconds, NEVER.seconds);
+    /* Upper 57, lower 1: the zone is 2.8, so 55 presses and 54 does not. */
+    check_events("B11 54 does not press", &session, "",
+                 EVENTS(draft_empty(130, 8), draft_bid(130, 7, 54), draft_tick(200)));
+    check_events("B11 55 presses", &session, "260 U 7\n", EVENTS(draft_bid(200, 7, 55), draft_tick(260)));
+}
+
+int main(void)
+{
+    figures_of_divisions();
+    figures_of_rates();
+    figures_of_factors();
+    figures_of_bounds();
+    figures_of_normal_price();
+    figures_of_floor();
+    figures_of_program();
+    figures_of_pressure();
+    figures_of_shifts();
+    figures_of_shifts_with_growth();
+    figures_of_refused_events();
+    figures_of_header();
+    figures_of_keys();
+    figures_of_contracts();
+    figures_of_ids();
+    figures_of_many_ids();
+    readings_of_caps();
+    readings_of_freezing();
+    readings_of_order();
+    readings_of_program();
+    figures_of_long_input();
+    readings_of_questions();
+    readings_of_widths();
+    readings_of_zero_width();
+    readings_of_one_second();
+    readings_of_gaps();
+    readings_of_holds();
+    readings_of_most_shifts();
+    readings_of_frozen_lines();
+    printf("%d passed, %d failed\n", passed, failed);
+    return failed == 0 ? EXIT_SUCCESS : EXIT_FAILURE;
+}

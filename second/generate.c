@@ -1,0 +1,666 @@
+/*
+ * generate.c: makes inputs worth comparing. It follows each session with the engine, so that quotes land
+ * on the border of pressure and times on due seconds, one second to either side of them, and on the
+ * session end.
+ *
+ * No expression here draws two random numbers without a sequence between them, since C leaves the order of
+ * such draws open and the inputs would then differ between compilers.
+ */
+#include "generate.h"
+
+#include "draft.h"
+
+#include <string.h>
+
+static const int64_t MOST_SESSION_SECONDS = 172800;
+static const int64_t MOST_NEAR_SHARE = 500000;
+static const int64_t MILLION = 1000000;
+static const int64_t MOST_TABLE_PRICE = 100000000;
+static const int64_t MOST_QUOTE_PRICE = 2000000000;
+static const int64_t MOST_DAYS = 3650;
+
+/* ---- Random numbers (splitmix64) ---- */
+
+typedef struct { uint64_t state; } Random;
+
+static uint64_t draw(Random *random)
+{
+    random->state += UINT64_C(0x9e3779b97f4a7c15);
+    uint64_t mixed = random->state;
+    mixed = (mixed ^ mixed >> 30) * UINT64_C(0xbf58476d1ce4e5b9);
+    mixed = (mixed ^ mixed >> 27) * UINT64_C(0x94d049bb133111eb);
+    return mixed ^ mixed >> 31;
+}
+
+/* A number from least to most, both included. */
+static int64_t between(Random *random, int64_t least, int64_t most)
+{
+    return least + (int64_t)(draw(random) % (uint64_t)(most - least + 1));
+}
+
+static uint32_t count_between(Random *random, uint32_t least, uint32_t most)
+{
+    return (uint32_t)between(random, least, most);
+}
+
+static bool chance(Random *random, int64_t percent)
+{
+    return between(random, 1, 100) <= percent;
+}
+
+static int64_t clamp(int64_t value, int64_t least, int64_t most)
+{
+    return value < least ? least : value > most ? most : value;
+}
+
+static int64_t size_of(int64_t value)
+{
+    return value < 0 ? -value : value;
+}
+
+/* A field on the wrong side of its range, mostly by one. Now and then it happens to be in range. */
+static uint32_t outside(Random *random, int64_t least, int64_t most)
+{
+    switch (between(random, 0, 4)) {
+    case 0:
+    case 1: return (uint32_t)(least - 1);
+    case 2:
+    case 3: return (uint32_t)(most + 1);
+    default: return (uint32_t)draw(random);
+    }
+}
+
+/* A field in its range, often at one of its ends. */
+static uint32_t inside(Random *random, int64_t least, int64_t most)
+{
+    switch (between(random, 0, 3)) {
+    case 0: return (uint32_t)least;
+    case 1: return (uint32_t)most;
+    default: return (uint32_t)between(random, least, most);
+    }
+}
+
+/* ---- Good tables ---- */
+
+static void make_times(Random *random, uint32_t *header)
+{
+    static const int64_t longest_hold[] = {1, 10, 10, 60, 60, 60, 600, 3600};
+    int64_t hold = between(random, 1, longest_hold[between(random, 0, 7)]);
+    int64_t end = hold * between(random, 3, 100);
+    end += between(random, -1, 1);
+    if (chance(random, 6)) {
+        end = inside(random, 1, MOST_SESSION_SECONDS);
+    }
+    header[HEADER_HOLD] = (uint32_t)hold;
+    header[HEADER_SESSION_END] = (uint32_t)clamp(end, 1, MOST_SESSION_SECONDS);
+}
+
+static void make_shares(Random *random, uint32_t *header)
+{
+    header[HEADER_MOST_SHIFTS] = chance(random, 50) ? MOST_SHIFTS : count_between(random, 0, MOST_SHIFTS);
+    header[HEADER_NEAR_SHARE] = chance(random, 30) ? 50000 : inside(random, 1, MOST_NEAR_SHARE);
+    header[HEADER_SHIFT_SHARE] = (uint32_t)between(random, 20000, MILLION);
+    if (chance(random, 15)) {
+        header[HEADER_SHIFT_SHARE] = inside(random, 1, MILLION);
+    }
+}
+
+static void make_keys(Random *random, TableDraft *draft, uint32_t key_count)
+{
+    int64_t most_rate = chance(random, 80) ? 200000 : MILLION;
+    bool no_rates = chance(random, 15);
+    int64_t days = 0;
+    for (uint32_t i = 0; i < key_count; i++) {
+        /* Each key leaves a day for each of the keys after it. */
+        int64_t last = MOST_DAYS - (key_count - 1 - i);
+        days = between(random, days + 1, chance(random, 90) ? clamp(days + 120, 1, last) : last);
+        draft->keys[i][KEY_DAYS] = (uint32_t)days;
+        draft->keys[i][KEY_RATE] = no_rates ? 0 : (uint32_t)between(random, 0, most_rate);
+    }
+}
+
+/* Prices of every kind: near the floor, around zero, ordinary, negative, and at the ends of the range. */
+static void make_prices(Random *random, uint32_t *contract)
+{
+    static const struct { int64_t least; int64_t most; } scales[] = {
+        {1, 60}, {1, 300}, {-30, 30}, {500, 5000}, {500, 200000}, {-5000, -1},
+        {99999990, 100000000}, {-100000000, -99999990},
+    };
+    int64_t scale = between(random, 0, 7);
+    int64_t settlement = between(random, scales[scale].least, scales[scale].most);
+    int64_t reach = size_of(settlement) / 10 + 5;
+    int64_t spot = settlement + between(random, -reach, reach);
+    if (chance(random, 15)) {
+        spot = -spot;
+    }
+    int64_t least_price = chance(random, 60) ? 1 : between(random, 1, size_of(settlement) + 10);
+    bool permits_negative = settlement < 1 || chance(random, 30);
+    bool watched = chance(random, 88);
+    contract[CONTRACT_SETTLEMENT] = (uint32_t)settlement;
+    contract[CONTRACT_SPOT] = (uint32_t)clamp(spot, -MOST_TABLE_PRICE, MOST_TABLE_PRICE);
+    contract[CONTRACT_LEAST_PRICE] = (uint32_t)clamp(least_price, 1, MOST_TABLE_PRICE);
+    contract[CONTRACT_FLAGS] = (permits_negative ? FLAG_PERMITS_NEGATIVE : 0u) | (watched ? FLAG_WATCHED : 0u);
+}
+
+static void make_rates(Random *random, uint32_t *contract)
+{
+    uint32_t most = chance(random, 80) ? 400000 : 1000000;
+    uint32_t least = chance(random, 80) ? 10000 : 1;
+    contract[CONTRACT_RATE_1] = count_between(random, least, most);
+    contract[CONTRACT_RATE_2] = count_between(random, contract[CONTRACT_RATE_1], 1000000);
+    contract[CONTRACT_RATE_3] = count_between(random, contract[CONTRACT_RATE_2], 1000000);
+}
+
+static void make_width_and_days(Random *random, const TableDraft *draft, uint32_t *contract)
+{
+    uint32_t key = count_between(random, 0, draft->key_count - 1);
+    bool ordinary = chance(random, 50);
+    contract[CONTRACT_WIDTH_SHARE] = ordinary ? count_between(random, 300000, 600000) : inside(random, 0, MILLION);
+    switch (between(random, 0, 4)) {
+    case 0: contract[CONTRACT_DAYS_LEFT] = inside(random, 0, MOST_DAYS); break;
+    case 1: contract[CONTRACT_DAYS_LEFT] = draft->keys[key][KEY_DAYS]; break;
+    default: contract[CONTRACT_DAYS_LEFT] = count_between(random, 0, 400); break;
+    }
+}
+
+/* How the engine takes the contract alone, under the header and the keys of the draft. */
+static Refusal refusal_of_contract(const TableDraft *draft, uint32_t index)
+{
+    TableDraft alone = *draft;
+    uint8_t bytes[LONGEST_TABLE];
+    Session session;
+    memcpy(alone.contracts[0], draft->contracts[index], sizeof alone.contracts[0]);
+    draft_counts(&alone, draft->key_count, 1);
+    TableAnswer answer = corridor_open(bytes, draft_write_table(&alone, bytes), &session);
+    return answer.kind == REFUSED ? answer.reason : NOT_REFUSED;
+}
+
+static void widen(uint32_t *contract)
+{
+    if (contract[CONTRACT_LEAST_PRICE] < MOST_TABLE_PRICE) {
+        int64_t wider = (int64_t)contract[CONTRACT_LEAST_PRICE] * 10;
+        contract[CONTRACT_LEAST_PRICE] = (uint32_t)clamp(wider, 1, MOST_TABLE_PRICE);
+        return;
+    }
+    contract[CONTRACT_RATE_1] = 1000000;
+    contract[CONTRACT_RATE_2] = 1000000;
+    contract[CONTRACT_RATE_3] = 1000000;
+}
+
+/* Changes a contract until the engine takes it: fewer days, a wider half-width, a narrower corridor. */
+static void mend_contract(TableDraft *draft, uint32_t index)
+{
+    uint32_t *contract = draft->contracts[index];
+    for (;;) {
+        switch (refusal_of_contract(draft, index)) {
+        case REFUSED_EXPONENT: contract[CONTRACT_DAYS_LEFT] /= 2; break;
+        case REFUSED_HALF_MOVE: widen(contract); break;
+        case REFUSED_LIMITS: contract[CONTRACT_WIDTH_SHARE] -= contract[CONTRACT_WIDTH_SHARE] / 8 + 1; break;
+        default: return;
+        }
+    }
+}
+
+static bool id_used(const TableDraft *draft, uint32_t lines, uint32_t id)
+{
+    for (uint32_t i = 0; i < lines; i++) {
+        if (draft->contracts[i][CONTRACT_ID] == id) {
+            return true;
+        }
+    }
+    return false;
+}
+
+static void make_ids(Random *random, TableDraft *draft, uint32_t contract_count)
+{
+    uint32_t most = chance(random, 70) ? 99 : UINT32_MAX;
+    for (uint32_t i = 0; i < contract_count; i++) {
+        uint32_t id = count_between(random, 1, most);
+        while (id_used(draft, i, id)) {
+            id = count_between(random, 1, most);
+        }
+        draft->contracts[i][CONTRACT_ID] = id;
+    }
+}
+
+static uint32_t make_contract_count(Random *random)
+{
+    if (chance(random, 80)) {
+        return count_between(random, 1, 5);
+    }
+    return chance(random, 90) ? count_between(random, 6, MOST_LINES) : MOST_LINES;
+}
+
+static TableDraft make_table(Random *random)
+{
+    TableDraft draft = {0};
+    uint32_t key_count = count_between(random, 1, chance(random, 85) ? 4 : MOST_KEYS);
+    uint32_t contract_count = make_contract_count(random);
+    draft_counts(&draft, key_count, contract_count);
+    make_times(random, draft.header);
+    make_shares(random, draft.header);
+    make_keys(random, &draft, key_count);
+    make_ids(random, &draft, contract_count);
+    for (uint32_t i = 0; i < contract_count; i++) {
+        make_prices(random, draft.contracts[i]);
+        make_rates(random, draft.contracts[i]);
+        make_width_and_days(random, &draft, draft.contracts[i]);
+        mend_contract(&draft, i);
+    }
+    return draft;
+}
+
+/* ---- Damaged tables ---- */
+
+static uint32_t *any_contract(Random *random, TableDraft *draft)
+{
+    return draft->contracts[between(random, 0, draft->contract_count - 1)];
+}
+
+static void set_rates_of_keys(TableDraft *draft, uint32_t rate)
+{
+    for (uint32_t i = 0; i < draft->key_count; i++) {
+        draft->keys[i][KEY_RATE] = rate;
+    }
+}
+
+static void damage_offsets(Random *random, TableDraft *draft)
+{
+    uint32_t field = chance(random, 50) ? HEADER_KEYS_OFFSET : HEADER_CONTRACTS_OFFSET;
+    switch (between(random, 0, 3)) {
+    case 0: draft->header[field] += 1; break;
+    case 1: draft->header[field] -= 4; break;
+    case 2: draft->header[field] = (uint32_t)draw(random); break;
+    default:
+        draft->header[HEADER_KEYS_OFFSET] = HEADER_BYTES + draft->contract_count * CONTRACT_BYTES;
+        draft->header[HEADER_CONTRACTS_OFFSET] = HEADER_BYTES;
+        break;
+    }
+}
+
+static void damage_edition(Random *random, TableDraft *draft)
+{
+    draft->header[HEADER_EDITION] = outside(random, 1, 1);
+}
+
+static void damage_header(Random *random, TableDraft *draft)
+{
+    static const struct { uint32_t field; int64_t least; int64_t most; } ranges[] = {
+        {HEADER_CONTRACT_COUNT, 1, MOST_LINES}, {HEADER_KEY_COUNT, 1, MOST_KEYS}, {HEADER_SESSION_END, 1, 172800},
+        {HEADER_HOLD, 1, 3600}, {HEADER_MOST_SHIFTS, 0, MOST_SHIFTS}, {HEADER_NEAR_SHARE, 1, 500000},
+        {HEADER_SHIFT_SHARE, 1, 1000000},
+    };
+    int64_t which = between(random, 0, 6);
+    draft->header[ranges[which].field] = outside(random, ranges[which].least, ranges[which].most);
+}
+
+static void damage_key(Random *random, TableDraft *draft)
+{
+    uint32_t line = count_between(random, 0, draft->key_count - 1);
+    switch (between(random, 0, 3)) {
+    case 0: draft->keys[line][KEY_RATE] = outside(random, 0, MILLION); break;
+    case 1: draft->keys[line][KEY_DAYS] = outside(random, 1, MOST_DAYS); break;
+    case 2: draft->keys[line][KEY_DAYS] = line == 0 ? 0 : draft->keys[line - 1][KEY_DAYS]; break;
+    default: draft->keys[line][KEY_DAYS] = line == 0 ? 0 : draft->keys[line - 1][KEY_DAYS] - 1; break;
+    }
+}
+
+static void damage_contract(Random *random, TableDraft *draft)
+{
+    static const struct { uint32_t field; int64_t least; int64_t most; } ranges[] = {
+        {CONTRACT_SETTLEMENT, -100000000, 100000000}, {CONTRACT_SPOT, -100000000, 100000000},
+        {CONTRACT_LEAST_PRICE, 1, 100000000}, {CONTRACT_RATE_1, 1, 1000000}, {CONTRACT_RATE_2, 1, 1000000},
+        {CONTRACT_RATE_3, 1, 1000000}, {CONTRACT_WIDTH_SHARE, 0, 1000000}, {CONTRACT_DAYS_LEFT, 0, 3650},
+    };
+    uint32_t *contract = any_contract(random, draft);
+    int64_t which = between(random, 0, 11);
+    if (which < 8) {
+        contract[ranges[which].field] = outside(random, ranges[which].least, ranges[which].most);
+    } else if (which == 8) {
+        contract[CONTRACT_RATE_2] = contract[CONTRACT_RATE_1] - 1;
+    } else if (which == 9) {
+        contract[CONTRACT_RATE_3] = contract[CONTRACT_RATE_2] - 1;
+    } else if (which == 10) {
+        contract[CONTRACT_SETTLEMENT] = (uint32_t)between(random, -3, 1);
+        contract[CONTRACT_FLAGS] &= ~(uint32_t)FLAG_PERMITS_NEGATIVE;
+    } else {
+        contract[CONTRACT_FLAGS] |= UINT32_C(4) << between(random, 0, 29);
+    }
+}
+
+static void damage_id(Random *random, TableDraft *draft)
+{
+    uint32_t id = chance(random, 40) ? 0 : any_contract(random, draft)[CONTRACT_ID];
+    uint32_t last = draft->contract_count - 1;
+    draft->contracts[last == 0 ? 0 : count_between(random, 1, last)][CONTRACT_ID] = last == 0 ? 0 : id;
+}
+
+/* The product of rate and days meets the cap at 182,500,000: it is set there or a little over. */
+static void damage_exponent(Random *random, TableDraft *draft)
+{
+    static const struct { uint32_t rate; uint32_t days; } caps[] = {
+        {50000, 3650}, {500000, 365}, {250000, 730}, {1000000, 182},
+    };
+    int64_t which = between(random, 0, 3);
+    uint32_t *contract = any_contract(random, draft);
+    set_rates_of_keys(draft, caps[which].rate);
+    contract[CONTRACT_DAYS_LEFT] = (uint32_t)clamp(caps[which].days + between(random, 0, 2), 0, MOST_DAYS);
+    if (chance(random, 50)) {
+        set_rates_of_keys(draft, (uint32_t)clamp(caps[which].rate + between(random, 0, 9), 0, MILLION));
+    }
+}
+
+/* A half-width on one of the two sides of the first half-move. */
+static void damage_half_move(Random *random, TableDraft *draft)
+{
+    uint32_t *contract = any_contract(random, draft);
+    int64_t half_width = between(random, 1, 1000);
+    int64_t share = clamp(2 * MILLION / half_width + between(random, -2, 1), 1, MILLION);
+    draft->header[HEADER_SHIFT_SHARE] = (uint32_t)share;
+    contract[CONTRACT_SPOT] = (uint32_t)half_width;
+    contract[CONTRACT_LEAST_PRICE] = 1;
+    contract[CONTRACT_RATE_1] = contract[CONTRACT_RATE_2] = contract[CONTRACT_RATE_3] = 1000000;
+}
+
+/* Grows the width share of one contract to where the limits leave the interest bounds, or one less. */
+static void damage_limits(Random *random, TableDraft *draft)
+{
+    uint32_t index = count_between(random, 0, draft->contract_count - 1);
+    uint32_t *contract = draft->contracts[index];
+    set_rates_of_keys(draft, 100000);
+    for (uint32_t i = 0; i < draft->contract_count; i++) {
+        draft->contracts[i][CONTRACT_DAYS_LEFT] = count_between(random, 1, 700);
+        mend_contract(draft, i);
+    }
+    uint32_t good = 0;
+    uint32_t bad = 1000001;
+    while (bad - good > 1) {
+        contract[CONTRACT_WIDTH_SHARE] = good + (bad - good) / 2;
+        if (refusal_of_contract(draft, index) == NOT_REFUSED) {
+            good = contract[CONTRACT_WIDTH_SHARE];
+        } else {
+            bad = contract[CONTRACT_WIDTH_SHARE];
+        }
+    }
+    bool refused = bad <= 1000000 && chance(random, 70);
+    contract[CONTRACT_WIDTH_SHARE] = refused ? (uint32_t)clamp(bad + between(random, 0, 3), 0, MILLION) : good;
+}
+
+static void damage(Random *random, TableDraft *draft, Refusal aim)
+{
+    switch (aim) {
+    case REFUSED_LENGTH_OR_OFFSETS: damage_offsets(random, draft); break;
+    case REFUSED_EDITION: damage_edition(random, draft); break;
+    case REFUSED_HEADER: damage_header(random, draft); break;
+    case REFUSED_KEY: damage_key(random, draft); break;
+    case REFUSED_CONTRACT: damage_contract(random, draft); break;
+    case REFUSED_ID: damage_id(random, draft); break;
+    case REFUSED_EXPONENT: damage_exponent(random, draft); break;
+    case REFUSED_HALF_MOVE: damage_half_move(random, draft); break;
+    default: damage_limits(random, draft); break;
+    }
+}
+
+/* ---- Good events ---- */
+
+/* How one input goes on: its session, and how often its quotes keep on pressing and its events are spoiled. */
+typedef struct {
+    Random *random;
+    Session session;
+    int64_t steady_percent;
+    int64_t spoiled_percent;
+} Course;
+
+static int64_t due_of_some_hold(Course *course)
+{
+    const Session *session = &course->session;
+    bool earliest = chance(course->random, 70);
+    uint32_t found = NEVER.seconds;
+    for (int side = SIDE_UP; side <= SIDE_DOWN; side++) {
+        for (uint32_t i = 0; i < session->line_count; i++) {
+            uint32_t due = session->due[side][i].seconds;
+            if (due != NEVER.seconds && (found == NEVER.seconds || (earliest && due < found))) {
+                found = due;
+            }
+        }
+    }
+    return found == NEVER.seconds ? session->clock.seconds + between(course->random, 0, 2) : found;
+}
+
+static uint32_t make_time(Course *course)
+{
+    Random *random = course->random;
+    int64_t clock = course->session.clock.seconds;
+    int64_t end = course->session.session_end.seconds;
+    int64_t hold = course->session.hold.seconds;
+    int64_t time = clock;
+    int64_t kind = between(random, 0, 999);
+    if (kind < 150) {
+        time = clock + between(random, 1, 2);
+    } else if (kind < 400) {
+        time = due_of_some_hold(course);
+        time += between(random, -1, 1);
+    } else if (kind < 450) {
+        time = clock + between(random, 0, hold);
+    } else if (kind < 480) {
+        time = clock + between(random, hold, 4 * hold);
+    } else if (kind < 486) {
+        time = end - hold + between(random, -1, 1);
+    } else if (kind < 490) {
+        time = end - between(random, 0, 2);
+    }
+    return (uint32_t)clamp(time, clock, end);
+}
+
+/* How far from its limit a price lies: around the border of pressure, pressing, or anywhere. */
+static int64_t make_distance(Course *course, const Line *line, bool pressing)
+{
+    Random *random = course->random;
+    int64_t width = line->limits.upper.steps - line->limits.lower.steps;
+    int64_t border = ceiling_division(course->session.near_share.millionths * width, MILLION);
+    if (pressing) {
+        return between(random, border - width / 20 - 3, border - 1);
+    }
+    switch (between(random, 0, 5)) {
+    case 0:
+    case 1: return border + between(random, -2, 1);
+    case 2: return between(random, -width - 2, border);
+    case 3: return between(random, -1, 1);
+    case 4: return border + between(random, 0, width + 5);
+    default: return chance(random, 50) ? -MOST_QUOTE_PRICE : between(random, -MOST_QUOTE_PRICE, MOST_QUOTE_PRICE);
+    }
+}
+
+static int64_t clamp_price(int64_t price)
+{
+    return clamp(price, -MOST_QUOTE_PRICE, MOST_QUOTE_PRICE);
+}
+
+static EventDraft make_quote(Course *course, uint32_t time)
+{
+    Random *random = course->random;
+    const Session *session = &course->session;
+    uint32_t index = count_between(random, 0, session->line_count - 1);
+    const Line *line = &session->lines[index];
+    bool held_up = session->due[SIDE_UP][index].seconds != NEVER.seconds;
+    bool held_down = session->due[SIDE_DOWN][index].seconds != NEVER.seconds;
+    bool steady = (held_up || held_down) && chance(random, course->steady_percent);
+    Side side = chance(random, 50) ? SIDE_UP : SIDE_DOWN;
+    if (steady) {
+        side = held_up ? SIDE_UP : SIDE_DOWN;
+    } else if (chance(random, 7)) {
+        return draft_empty(time, line->id);
+    }
+    int64_t distance = make_distance(course, line, steady);
+    int64_t gap = chance(random, 30) ? 0 : between(random, 0, line->limits.upper.steps - line->limits.lower.steps + 2);
+    bool one_sided = chance(random, 60);
+    if (side == SIDE_UP) {
+        int64_t bid = clamp_price(line->limits.upper.steps - distance);
+        return one_sided ? draft_bid(time, line->id, bid) : draft_quote(time, line->id, bid, clamp_price(bid + gap));
+    }
+    int64_t ask = clamp_price(line->limits.lower.steps + distance);
+    return one_sided ? draft_ask(time, line->id, ask) : draft_quote(time, line->id, clamp_price(ask - gap), ask);
+}
+
+static EventDraft make_event(Course *course)
+{
+    uint32_t time = make_time(course);
+    return chance(course->random, 30) ? draft_tick(time) : make_quote(course, time);
+}
+
+/* ---- Spoiled events ---- */
+
+static void spoil_form(Random *random, EventDraft *event)
+{
+    static const uint32_t bad_prices[] = {2000000001, (uint32_t)-2000000001, INT32_MAX, UINT32_C(0x80000000)};
+    int64_t field = between(random, EVENT_ID, EVENT_ASK);
+    uint32_t bad_price = bad_prices[between(random, 0, 3)];
+    switch (between(random, 0, 4)) {
+    case 0: event->fields[EVENT_FLAGS] = count_between(random, 5, 9); break;
+    case 1: event->fields[EVENT_FLAGS] |= UINT32_C(4) << between(random, 0, 29); break;
+    case 2: event->fields[EVENT_FLAGS] ^= UINT32_C(1) << between(random, 0, 2); break;
+    case 3: event->fields[field] = (uint32_t)between(random, -1, 1); break;
+    default: event->fields[field] = bad_price; break;
+    }
+}
+
+static void spoil_id(Random *random, EventDraft *event)
+{
+    switch (between(random, 0, 3)) {
+    case 0: event->fields[EVENT_ID] = 0; break;
+    case 1: event->fields[EVENT_ID] += 1; break;
+    case 2: event->fields[EVENT_ID] ^= UINT32_C(1) << between(random, 0, 31); break;
+    default: event->fields[EVENT_ID] = (uint32_t)draw(random); break;
+    }
+}
+
+static void spoil_prices(Random *random, EventDraft *event)
+{
+    int64_t ask = between(random, -MOST_QUOTE_PRICE, MOST_QUOTE_PRICE - 1000);
+    int64_t over = chance(random, 50) ? 1 : between(random, 0, 1000);
+    event->fields[EVENT_FLAGS] = FLAGS_OF_QUOTE;
+    event->fields[EVENT_BID] = (uint32_t)(ask + over);
+    event->fields[EVENT_ASK] = (uint32_t)ask;
+}
+
+static void spoil_event(Course *course, EventDraft *event)
+{
+    Random *random = course->random;
+    uint32_t clock = course->session.clock.seconds;
+    uint32_t end = course->session.session_end.seconds;
+    switch (between(random, REFUSED_AFTER_END, REFUSED_CROSSED)) {
+    case REFUSED_AFTER_END: event->fields[EVENT_TIME] = outside(random, 0, end); break;
+    case REFUSED_BEFORE_CLOCK: event->fields[EVENT_TIME] = clock - count_between(random, 1, 1 + clock / 2); break;
+    case REFUSED_EVENT_FORM: spoil_form(random, event); break;
+    case REFUSED_UNKNOWN_ID: spoil_id(random, event); break;
+    default: spoil_prices(random, event); break;
+    }
+    /* A second fault at times, so that the order of the refusals shows. */
+    if (chance(random, 25)) {
+        spoil_event(course, event);
+    }
+}
+
+/* ---- Whole inputs ---- */
+
+static size_t add_random_bytes(Random *random, uint8_t *bytes, size_t count)
+{
+    for (size_t i = 0; i < count; i++) {
+        bytes[i] = (uint8_t)(draw(random) & 0xff);
+    }
+    return count;
+}
+
+static size_t add_event(Course *course, uint8_t *bytes)
+{
+    EventAnswer answer;
+    size_t length;
+    if (chance(course->random, 1)) {
+        length = add_random_bytes(course->random, bytes, EVENT_BYTES);
+    } else {
+        EventDraft event = make_event(course);
+        if (chance(course->random, course->spoiled_percent)) {
+            spoil_event(course, &event);
+        }
+        length = draft_write_event(&event, bytes);
+    }
+    corridor_event(&course->session, bytes, length, &answer);
+    return length;
+}
+
+static int64_t make_event_count(Random *random)
+{
+    if (chance(random, 15)) {
+        return between(random, 0, 20);
+    }
+    return chance(random, 75) ? between(random, 50, 150) : between(random, 150, MOST_EVENTS);
+}
+
+static size_t add_events(Course *course, uint8_t *bytes)
+{
+    static const int64_t steadiness[] = {50, 80, 95, 100};
+    static const int64_t spoiling[] = {0, 5, 5, 15, 50};
+    Random *random = course->random;
+    course->steady_percent = steadiness[between(random, 0, 3)];
+    course->spoiled_percent = spoiling[between(random, 0, 4)];
+    size_t length = 0;
+    for (int64_t left = make_event_count(random); left > 0; left--) {
+        length += add_event(course, bytes + length);
+    }
+    if (chance(random, 12)) {
+        length += add_random_bytes(random, bytes + length, (size_t)between(random, 1, EVENT_BYTES - 1));
+    }
+    return length;
+}
+
+/* Damages the bytes of a written table: some fields replaced, all random, or other counts than written. */
+static size_t damage_bytes(Random *random, TableDraft *draft, uint8_t *bytes)
+{
+    if (chance(random, 15)) {
+        return add_random_bytes(random, bytes, (size_t)between(random, 0, 200));
+    }
+    if (chance(random, 20)) {
+        uint32_t other_keys = count_between(random, 1, MOST_KEYS);
+        draft_layout(draft, other_keys, count_between(random, 1, MOST_LINES));
+    }
+    size_t length = draft_write_table(draft, bytes);
+    for (int64_t left = between(random, 0, 3); left > 0; left--) {
+        int64_t place = between(random, 0, (int64_t)length - 1);
+        bytes[place] = (uint8_t)(draw(random) & 0xff);
+    }
+    return length;
+}
+
+/* Writes the table, damaged in about one input out of six. */
+static size_t add_table(Random *random, uint8_t *bytes)
+{
+    TableDraft draft = make_table(random);
+    int64_t kind = between(random, 0, 99);
+    if (kind < 3) {
+        return damage_bytes(random, &draft, bytes);
+    }
+    if (kind < 16) {
+        damage(random, &draft, (Refusal)between(random, REFUSED_LENGTH_OR_OFFSETS, REFUSED_LIMITS));
+    }
+    if (kind < 18 && chance(random, 20)) {
+        damage(random, &draft, (Refusal)between(random, REFUSED_LENGTH_OR_OFFSETS, REFUSED_LIMITS));
+    }
+    return draft_write_table(&draft, bytes);
+}
+
+size_t generate_input(uint64_t seed, uint64_t number, uint8_t input[LONGEST_INPUT])
+{
+    Random random = {seed};
+    random.state = draw(&random) ^ number;
+    random.state = draw(&random);
+    size_t length = add_table(&random, input);
+    if (chance(&random, 1)) {
+        return (size_t)between(&random, 0, (int64_t)length - (length > 0));
+    }
+    Course course = {.random = &random};
+    size_t table_length = length < HEADER_BYTES ? length : corridor_table_length(input);
+    if (table_length <= length && corridor_open(input, table_length, &course.session).kind == ACCEPTED) {
+        return table_length + add_events(&course, input + table_length);
+    }
+    return length + add_random_bytes(&random, input + length, (size_t)between(&random, 0, 3 * EVENT_BYTES));
+}
