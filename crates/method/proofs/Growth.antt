@@ -60,7 +60,7 @@ unfolding factors-of
 factors-in y h = (up-between y h, down-between y h)
 
 -- ---- the rate: between two keys it lies between their rates
-pos-minus : (m n : ℕ) → n ≤ m → pos m -ℤ pos n ≡ pos (m - n)
+pub pos-minus : (m n : ℕ) → n ≤ m → pos m -ℤ pos n ≡ pos (m - n)
 pos-minus m n h = omega (zarith, sub-is (pos m) (pos n))
 
 module _ (a : ℤ) (n d : ℕ) (h : n ≤ d) (g : 0 < d) where
@@ -85,7 +85,7 @@ module _ (a : ℤ) (n d : ℕ) (h : n ≤ d) (g : 0 < d) where
       last a p = omega (zarith, mul-is (pos 0) d, mul-is (pos 0) n, mul-mono n p)
 
 -- rates of millionths, and so is what lies between them
-abbrev RateIn : ℤ → Type 0
+abbrev pub RateIn : ℤ → Type 0
 RateIn z = Span (pos 0) (pos 1_000_000) z
 
 between-in : (l r n d : ℕ) → l ≤ 1_000_000 → r ≤ 1_000_000 → n ≤ d → 0 < d → RateIn (pos l +ℤ floor ((pos r -ℤ pos l) *ℤ pos n) d)
@@ -104,7 +104,7 @@ between-in l r n d hl hr h g = ⊎-elim rise fall (le-or-lt (pos 0) (pos r -ℤ 
         let q = part-of-fall (pos r -ℤ pos l) n d h g (omega zarith) in
         record { least = omega (zarith, q .least, add-is (pos l) f, sub-is (pos r) (pos l)); most = omega (zarith, q .most, add-is (pos l) f) }
 
-between-keys-in : (l r : Key) (days : ℕ) → l .rate .0 ≤ 1_000_000 → r .rate .0 ≤ 1_000_000 → l .days < days → days ≤ r .days → RateIn (between-keys l r days)
+pub between-keys-in : (l r : Key) (days : ℕ) → l .rate .0 ≤ 1_000_000 → r .rate .0 ≤ 1_000_000 → l .days < days → days ≤ r .days → RateIn (between-keys l r days)
 unfolding between-keys
 between-keys-in l r days hl hr h g =
     rw (pos-minus days (l .days) (omega arith))

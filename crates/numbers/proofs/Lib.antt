@@ -5,3 +5,4 @@ pub mod Machine
 pub mod Linear
 pub mod Rounding
 pub mod Rounded
+pub mod Arrays

@@ -1,0 +1,4 @@
+pub mod Between
+pub mod Series
+pub mod Search
+pub mod Rates

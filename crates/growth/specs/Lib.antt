@@ -1,0 +1,3 @@
+pub mod Names
+pub mod Asks
+pub mod Found
