@@ -45,3 +45,18 @@ module _ {A : Type 0} where
   unfolding Every
   every-to-map Q f [] ps = tt
   every-to-map Q f (x ∷ xs) ps = (ps .0, every-to-map Q f xs (ps .1))
+
+  pub every-append : (P : A → Type 0) (xs ys : List A) → Every P xs → Every P ys → Every P (xs ++ ys)
+  unfolding Every
+  every-append P [] ys ps qs = qs
+  every-append P (x ∷ xs) ys ps qs = (ps .0, every-append P xs ys (ps .1) qs)
+
+  pub every-middle : (P : A → Type 0) (xs : List A) (x : A) (ys : List A) → Every P (xs ++ x ∷ ys) → P x
+  unfolding Every
+  every-middle P [] x ys ps = ps .0
+  every-middle P (z ∷ xs) x ys ps = every-middle P xs x ys (ps .1)
+
+  pub every-front : (P : A → Type 0) (xs ys : List A) → Every P (xs ++ ys) → Every P xs
+  unfolding Every
+  every-front P [] ys ps = tt
+  every-front P (x ∷ xs) ys ps = (ps .0, every-front P xs ys (ps .1))

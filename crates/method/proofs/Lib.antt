@@ -12,3 +12,12 @@ pub mod Decided
 pub mod LineAnswered
 pub mod TableAnswered
 pub mod EventAnswered
+pub mod HoldLife
+pub mod FirstFound
+pub mod Serving
+pub mod Answers
+pub mod Moments
+pub mod EveryLine
+pub mod OtherSide
+pub mod NoneMissed
+pub mod Rule2

@@ -17,3 +17,4 @@ pub mod Examples
 pub mod Ranges
 pub mod Sound
 pub mod Rule1
+pub mod Rule2

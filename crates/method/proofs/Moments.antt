@@ -1,0 +1,221 @@
+-- The moments of a run form a chain: at each, a hold began there or stood at the one before. So the hold behind a shift line has stood, and
+-- its line has pressed, at every moment since its start. Assumes nothing.
+use mathlib.Core.Path.{_≡_, refl, sym, ap, _∙_}
+use mathlib.Core.Logic.{_⊎_, inl, inr, ⊎-elim}
+use mathlib.Core.List.{List, [], _∷_, _++_, List·Memᴰ, List·Memᴰ·head, List·Memᴰ·tail}
+use Prim.Native.Nat.{ℕ, _≤_, _<_}
+use native.Mathlib.Omega.{arith}
+use Rattle.method.specs.Types.{Side, Seconds, Idle, Since, Event, ShiftLine, State}
+use Rattle.method.specs.Shift.{onward, after}
+use Rattle.method.specs.Event.{read, Answer, accepted, refused, next}
+use Rattle.method.specs.CalledFor.{time, Right, Answers, reached}
+use Rattle.method.specs.Ranges.{Every}
+use Rattle.method.specs.Sound.{Sound}
+use Rattle.method.specs.Rule2.{
+  hold-at,
+  Precedes,
+  before,
+  up-down,
+  Rising,
+  Timely,
+  Moment,
+  shift-moments,
+  event-moments,
+  moments,
+  Pressing,
+  Unbroken,
+}
+use Rattle.method.proofs.Every.{every-weaker, every-front}
+use Rattle.method.proofs.HoldLife.{Judged, no-since, applied-life, life-since, held-pressed}
+use Rattle.method.proofs.Serving.{judged-onward, onward-held, calls-rising, after-judged}
+use Rattle.method.proofs.Answers.{next-sound, next-clock, next-timely, right-from-clock, sound-reached}
+
+-- ---- a chain of moments
+record Follows (m n : Moment) : Type 0 where
+  not-before : m .second .0 ≤ n .second .0
+  judged : Judged (n .state)
+  held : (side : Side) (place : ℕ) (start : Seconds) → hold-at side (n .state) place ≡ Since start
+      → (start ≡ n .second) ⊎ (hold-at side (m .state) place ≡ Since start)
+
+unfoldable Chain : Moment → List Moment → Type 0
+Chain m [] = Unit {0}
+Chain m (n ∷ ns) = Follows m n × Chain n ns
+
+unfoldable last : Moment → List Moment → Moment
+last m [] = m
+last m (n ∷ ns) = last n ns
+
+chain-append : (m : Moment) (ns os : List Moment) → Chain m ns → Chain (last m ns) os → Chain m (ns ++ os)
+unfolding Chain last
+chain-append m [] os h k = k
+chain-append m (n ∷ ns) os h k = (h .0, chain-append n ns os (h .1) k)
+
+last-append : (m : Moment) (ns os : List Moment) → last m (ns ++ os) ≡ last (last m ns) os
+unfolding last
+last-append m [] os = refl
+last-append m (n ∷ ns) os = last-append n ns os
+
+-- ---- along a chain, a hold that stands at the last moment has stood since its start
+module _ (side : Side) (place : ℕ) (start : Seconds) where
+  abbrev Held : Moment → Type 0
+  Held m = hold-at side (m .state) place ≡ Since start
+
+  -- at all moments later than the start
+  stood : (m : Moment) (ns : List Moment) → Chain m ns → Held (last m ns)
+      → (start .0 < m .second .0 → Held m) × Every (λ n. start .0 < n .second .0 → Pressing side place start n) ns
+  unfolding Chain last Every
+  stood m [] h e = (λ l. e, tt)
+  stood m (n ∷ ns) h e = go (stood n ns (h .1) e)
+    where
+      back : start .0 < m .second .0 → (start ≡ n .second) ⊎ Held m → Held m
+      back l (inl p) = let q : start .0 ≡ n .second .0 = ap (λ (z : Seconds). z .0) p in absurd (omega (arith, h .0 .not-before))
+      back l (inr p) = p
+
+      go : (start .0 < n .second .0 → Held n) × Every (λ k. start .0 < k .second .0 → Pressing side place start k) ns
+          → (start .0 < m .second .0 → Held m) × Every (λ k. start .0 < k .second .0 → Pressing side place start k) (n ∷ ns)
+      go r = (
+        λ l. back l (h .0 .held side place start (r .0 (omega (arith, h .0 .not-before)))),
+        (λ l. record { held = r .0 l; pressed = held-pressed (n .state) side place (h .0 .judged) (r .0 l) .1 }, r .1),
+      )
+
+  -- and at one moment at that very second, unless it stood at the first
+  record Begun (ns : List Moment) : Type 0 where
+    moment : Moment
+    among : List·Memᴰ moment ns
+    at-start : moment .second ≡ start
+    pressing : Pressing side place start moment
+
+  begun : (m : Moment) (ns : List Moment) → Chain m ns → Held (last m ns) → Held m ⊎ Begun ns
+  unfolding Chain last
+  begun m [] h e = inl e
+  begun m (n ∷ ns) h e = go (begun n ns (h .1) e)
+    where
+      here : Held n → (start ≡ n .second) ⊎ Held m → Held m ⊎ Begun (n ∷ ns)
+      here k (inl p) =
+          inr (record {
+            moment = n;
+            among = List·Memᴰ·head refl;
+            at-start = sym p;
+            pressing = record { held = k; pressed = held-pressed (n .state) side place (h .0 .judged) k .1 };
+          })
+      here k (inr p) = inl p
+
+      go : Held n ⊎ Begun ns → Held m ⊎ Begun (n ∷ ns)
+      go (inl k) = here k (h .0 .held side place start k)
+      go (inr b) =
+          inr (record { moment = b .moment; among = List·Memᴰ·tail (b .among); at-start = b .at-start; pressing = b .pressing })
+
+  chain-unbroken : (m : Moment) (ns : List Moment) → Chain m ns → Held (last m ns) → (Held m → ⊥) → Unbroken side place start ns
+  chain-unbroken m ns h e none = go (begun m ns h e)
+    where
+      go : Held m ⊎ Begun ns → Unbroken side place start ns
+      go (inl k) = absurd (none k)
+      go (inr b) =
+          record { began = b .moment; among = b .among; at-start = b .at-start; pressing = b .pressing; ever-since = stood m ns h e .1 }
+
+-- ---- the moments of a run form a chain, from its first state on
+abbrev now : State → Moment
+now s = record { second = s .clock; state = s }
+
+not-after : {c d : ShiftLine} → Precedes c d → c .second .0 ≤ d .second .0
+not-after (before h) = omega arith
+not-after (up-down e u d) = omega arith
+
+shift-chain : (u : Seconds) (s : State) (cs : List ShiftLine) → Every (λ c. u .0 ≤ c .second .0) cs → Rising cs
+    → Chain (record { second = u; state = s }) (shift-moments s cs)
+unfolding Chain shift-moments Every Rising
+shift-chain u s [] h k = tt
+shift-chain u s (c ∷ cs) h k = (
+  record {
+    not-before = h .0;
+    judged = judged-onward s c;
+    held = λ side place start e. ⊎-elim inl (λ r. inr (r .0)) (onward-held s c side place e);
+  },
+  shift-chain (c .second) (onward s c) cs (every-weaker (Precedes c) _ (λ d p. not-after p) cs (k .0)) (k .1),
+)
+
+shift-last : (u t : Seconds) (s : State) (cs : List ShiftLine) → u .0 ≤ t .0 → Every (λ c. c .second .0 ≤ t .0) cs
+    → let m : Moment = last (record { second = u; state = s }) (shift-moments s cs) in (m .second .0 ≤ t .0) × (m .state ≡ after cs s)
+unfolding last shift-moments after Every
+shift-last u t s [] l h = (l, refl)
+shift-last u t s (c ∷ cs) l h = shift-last (c .second) t (onward s c) cs (h .0) (h .1)
+
+-- some first shift lines of an event at t
+module _ (s : State) (t : Seconds) (cs : List ShiftLine) (timely : Every (Timely (s .clock) t (s .end)) cs) where
+  served-chain : Rising cs → Chain (now s) (shift-moments s cs)
+  served-chain r = shift-chain (s .clock) s cs (every-weaker _ _ (λ c k. let h = k .after-clock in omega arith) cs timely) r
+
+  served-last : s .clock .0 ≤ t .0
+      → let m : Moment = last (now s) (shift-moments s cs) in (m .second .0 ≤ t .0) × (m .state ≡ after cs s)
+  served-last l = shift-last (s .clock) t s cs l (every-weaker _ _ (λ c k. k .by-event) cs timely)
+
+-- all of them, and the event
+module _ (s : State) (e : Event) (cs : List ShiftLine) (v : Sound s) (r : Right s e (accepted cs)) where
+  follows : Follows (last (now s) (shift-moments s cs)) (record { second = time e; state = next s e (accepted cs) })
+  follows =
+      let end = served-last s (time e) cs (next-timely s e cs v r) (right-from-clock s e cs r) in
+      record {
+        not-before = end .0;
+        judged = next-sound s e (accepted cs) v r .exact;
+        held = λ side place start h.
+            rw (end .1) (life-since _ _ (applied-life e (after cs s) side place (after-judged cs s (v .exact))) (unfold next in h));
+      }
+
+  accepted-chain : Chain (now s) (event-moments s e (accepted cs))
+  accepted-chain =
+      let rising = calls-rising (time e) s cs (v .waits) (unfold Right in r .1) in
+      let shifts = served-chain s (time e) cs (next-timely s e cs v r) rising in
+      unfold event-moments in chain-append (now s) (shift-moments s cs) _ shifts (unfold Chain in (follows, tt))
+
+  accepted-last : last (now s) (event-moments s e (accepted cs)) ≡ now (next s e (accepted cs))
+  accepted-last =
+      unfold event-moments last in
+      last-append (now s) (shift-moments s cs) _ ∙ (λ i. record { second = sym (next-clock s e cs r) i; state = next s e (accepted cs) })
+
+event-chain : (s : State) (e : Event) (a : Answer) → Sound s → Right s e a
+    → Chain (now s) (event-moments s e a) × (last (now s) (event-moments s e a) ≡ now (next s e a))
+event-chain s e (refused why) v r = unfold event-moments Chain last next in (tt, refl)
+event-chain s e (accepted cs) v r = (accepted-chain s e cs v r, accepted-last s e cs v r)
+
+run-chain : (s : State) (bs : List (List ℕ)) (rs : List Answer) → Sound s → Answers s bs rs
+    → Chain (now s) (moments s bs rs) × (last (now s) (moments s bs rs) ≡ now (reached s bs rs))
+unfolding Answers moments reached
+run-chain s [] rs v h = unfold Chain last in (tt, refl)
+run-chain s (b ∷ bs) [] v h = absurd h
+run-chain s (b ∷ bs) (a ∷ rs) v h = go (run-chain (next s (read b) a) bs rs (next-sound s (read b) a v (h .0)) (h .1))
+  where
+    n : State
+    n = next s (read b) a
+
+    first : Chain (now s) (event-moments s (read b) a) × (last (now s) (event-moments s (read b) a) ≡ now n)
+    first = event-chain s (read b) a v (h .0)
+
+    go : Chain (now n) (moments n bs rs) × (last (now n) (moments n bs rs) ≡ now (reached n bs rs))
+        → Chain (now s) (event-moments s (read b) a ++ moments n bs rs)
+        × (last (now s) (event-moments s (read b) a ++ moments n bs rs) ≡ now (reached n bs rs))
+    go r = (
+      chain-append (now s) (event-moments s (read b) a) (moments n bs rs) (first .0) (rw (first .1) (r .0)),
+      last-append (now s) (event-moments s (read b) a) (moments n bs rs) ∙ rw (first .1) (r .1),
+    )
+
+-- ---- the hold behind a shift line
+rising-front : (cs ds : List ShiftLine) → Rising (cs ++ ds) → Rising cs
+unfolding Rising
+rising-front [] ds h = tt
+rising-front (c ∷ cs) ds h = (every-front (Precedes c) cs ds (h .0), rising-front cs ds (h .1))
+
+pub pressed-since : (o : State) (past : List (List ℕ)) (told : List Answer) (e : Event) (cs ds : List ShiftLine)
+    → (side : Side) (place : ℕ) (start : Seconds) → Sound o → hold-at side o place ≡ Idle → Answers o past told
+    → Right (reached o past told) e (accepted (cs ++ ds)) → hold-at side (after cs (reached o past told)) place ≡ Since start
+    → Unbroken side place start (moments o past told ++ shift-moments (reached o past told) cs)
+pressed-since o past told e cs ds side place start v idle h r held =
+    let s : State = reached o past told in
+    let w : Sound s = sound-reached o past told v h in
+    let front = run-chain o past told v h in
+    let timely = every-front _ cs ds (next-timely s e (cs ++ ds) w r) in
+    let rising = rising-front cs ds (calls-rising (time e) s (cs ++ ds) (w .waits) (unfold Right in r .1)) in
+    let end = served-last s (time e) cs timely (right-from-clock s e (cs ++ ds) r) .1 in
+    chain-unbroken side place start (now o) (moments o past told ++ shift-moments s cs)
+    (chain-append (now o) (moments o past told) (shift-moments s cs) (front .0) (rw (front .1) (served-chain s (time e) cs timely rising)))
+    (rw (last-append (now o) (moments o past told) (shift-moments s cs), front .1, end) held)
+    (λ k. no-since (sym idle ∙ k))
