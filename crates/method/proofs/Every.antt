@@ -30,6 +30,13 @@ module _ {A : Type 0} where
   every-at P (x ∷ xs) d zero ps h = ps .0
   every-at P (x ∷ xs) d (suc i) ps h = every-at P xs d i (ps .1) (omega arith)
 
+  -- at any place, where what is read past the end has it too
+  pub every-else : (P : A → Type 0) (xs : List A) (d : A) (i : ℕ) → Every P xs → P d → P (getD xs i d)
+  unfolding Every
+  every-else P [] d i ps p = p
+  every-else P (x ∷ xs) d zero ps p = ps .0
+  every-else P (x ∷ xs) d (suc i) ps p = every-else P xs d i (ps .1) p
+
   pub every-last : (P : A → Type 0) (xs : List A) (x : A) → Every P xs → P x → Every P (xs ++ (x ∷ []))
   unfolding Every
   every-last P [] x ps p = (p, tt)

@@ -21,3 +21,13 @@ pub mod EveryLine
 pub mod OtherSide
 pub mod NoneMissed
 pub mod Rule2
+pub mod Each
+pub mod Events
+pub mod Redrawn
+pub mod Rooms
+pub mod Products
+pub mod Sane
+pub mod ShiftedLine
+pub mod Later
+pub mod Reached
+pub mod Rule3

@@ -133,6 +133,7 @@ pub record Accepted (b : List ℕ) (s : State) : Type 0 where
   pub header : HeaderIn (header-of b)
   pub layout : laid-out (header-of b) (length b) ≡ true
   pub keys : KeysIn 0 (keys-at b 40 (header-of b .keys))
+  pub opens : s ≡ opening-state (header-of b) (s .lines)
   pub state : OpeningIn s
 
 pub accepted-table : (b : List ℕ) (s : State) → opening b ≡ opened s → Accepted b s
@@ -154,13 +155,13 @@ accepted-table b s e =
     go none q e long layout i =
         let h = header-of b in
         let cs = contracts-at b (contracts-start h) (h .contracts) in
+        let r = open-lines-in h (keys-at b 40 (h .keys)) 1 [] cs s i (unfold Every in tt) e in
         record {
           long = long;
           header = i;
           layout = layout;
           keys = keys-in 1 0 (keys-at b 40 (h .keys)) q;
-          state =
-              state-in h (length cs) s i (contracts-length b (contracts-start h) (h .contracts))
-              (open-lines-in h (keys-at b 40 (h .keys)) 1 [] cs s i (unfold Every in tt) e);
+          opens = r .state;
+          state = state-in h (length cs) s i (contracts-length b (contracts-start h) (h .contracts)) r;
         }
     go (some line) q e long layout i = absurd (not-opened e)

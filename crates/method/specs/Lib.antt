@@ -18,3 +18,5 @@ pub mod Ranges
 pub mod Sound
 pub mod Rule1
 pub mod Rule2
+pub mod Later
+pub mod Rule3

@@ -1,13 +1,37 @@
--- The ranges of an opened line and of an opening state: what an accepted table tells.
+-- The ranges of a session's numbers: what an accepted table tells of the lines that it opens, and what every shift and every event keep.
 use mathlib.Core.Path.{_≡_}
 use mathlib.Core.Bool.{true, false}
 use mathlib.Core.List.{List, [], _∷_}
-use Prim.Native.Nat.{ℕ, _≤_, _<_}
-use lib.IntN.{ℤ, pos}
+use Prim.Native.Nat.{ℕ, _-_, _*_, _≤_, _<_}
+use lib.IntN.{pos}
 use lib.ListN.{length}
 use lib.Signed.{_≤ℤ_}
 use Rattle.numbers.specs.Ranges.{Within, Between, Span}
-use Rattle.method.specs.Types.{Header, Key, Contract, Up, Down, Steps, Terms, Market, Limits, Absent, Idle, Book, Holds, Line, State, seconds}
+use Rattle.method.specs.Types.{
+  Header,
+  Key,
+  Contract,
+  Up,
+  Down,
+  Terms,
+  Market,
+  Limits,
+  Price,
+  Absent,
+  Given,
+  Book,
+  Hold,
+  Idle,
+  Since,
+  Holds,
+  Line,
+  Event,
+  Damaged,
+  Tick,
+  Quoted,
+  State,
+  seconds,
+}
 use Rattle.method.specs.Bounds.{bound}
 use Rattle.method.specs.Opening.{permits-negative}
 
@@ -103,3 +127,58 @@ pub record OpeningIn (s : State) : Type 0 where
   pub hold : Between 1 3_600 (s .hold .0)
   pub left : s .left ≤ 16
   pub near : Between 1 500_000 (s .near .0)
+
+-- ---- a line while `left` shifts are left
+-- How far a centre and a half-width reach: 100,000,000 at opening, and at most 50,000,000 further by each of at most 16 shifts.
+abbrev pub reach : ℕ → ℕ
+reach left = 900_000_000 - 50_000_000 * left
+
+pub record MarketRoom (left : ℕ) (m : Market) : Type 0 where
+  pub centre : Within (reach left) (m .centre .0)
+  pub half1 : Span (pos 1) (pos (reach left)) (m .half1 .0)
+  pub half2 : Span (pos 1) (pos (reach left)) (m .half2 .0)
+  pub half3 : Span (pos 1) (pos (reach left)) (m .half3 .0)
+
+pub record LimitsRoom (t : Terms) (m : Market) (k : Limits) : Type 0 where
+  pub upper : (k .upper .0) ≤ℤ (bound Up t m)
+  pub lower : (bound Down t m) ≤ℤ (k .lower .0)
+  pub ordered : (k .lower .0) ≤ℤ (k .upper .0)
+  pub floor : Floor k (t .flags)
+
+unfoldable pub PriceIn : Price → Type 0
+PriceIn Absent = Unit {0}
+PriceIn (Given p) = Within 2_000_000_000 (p .0)
+
+pub record BookIn (b : Book) : Type 0 where
+  pub bid : PriceIn (b .bid)
+  pub ask : PriceIn (b .ask)
+
+-- a hold starts no later than the longest session ends
+unfoldable pub HoldIn : Hold → Type 0
+HoldIn Idle = Unit {0}
+HoldIn (Since start) = start .0 ≤ 172_800
+
+pub record HoldsIn (h : Holds) : Type 0 where
+  pub up : HoldIn (h .up)
+  pub down : HoldIn (h .down)
+
+pub record Room (left : ℕ) (l : Line) : Type 0 where
+  pub terms : TermsIn (l .terms)
+  pub market : MarketRoom left (l .market)
+  pub limits : LimitsRoom (l .terms) (l .market) (l .limits)
+  pub book : BookIn (l .book)
+  pub holds : HoldsIn (l .holds)
+
+-- ---- a state, and an event
+pub record Sane (s : State) : Type 0 where
+  pub hold : Between 1 3_600 (s .hold .0)
+  pub end : s .end .0 ≤ 172_800
+  pub clock : s .clock .0 ≤ s .end .0
+  pub left : s .left ≤ 16
+  pub near : Between 1 500_000 (s .near .0)
+  pub rooms : Every (Room (s .left)) (s .lines)
+
+unfoldable pub EventIn : Event → Type 0
+EventIn Damaged = Unit {0}
+EventIn (Tick t) = Unit {0}
+EventIn (Quoted q) = PriceIn (q .bid) × PriceIn (q .ask)

@@ -1,0 +1,62 @@
+-- Facts of the lines of two lists, line by line, and what the quote of one line keeps. Assumes nothing.
+use mathlib.Core.Bool.{Bool, true, false, cond}
+use mathlib.Core.List.{List, [], _∷_, map}
+use Prim.Native.Nat.{ℕ}
+use lib.Dec.{eqb}
+use Rattle.method.specs.Types.{Millionths, Line, Quote}
+use Rattle.method.specs.Event.{quoted-line, quoted}
+use Rattle.method.specs.Ranges.{Every}
+use Rattle.method.specs.Rule3.{Each}
+
+pub each-same : (P : Line → Type 0) (R : Line → Line → Type 0) → ((l : Line) → P l → R l l) → (ls : List Line) → Every P ls → Each R ls ls
+unfolding Every Each
+each-same P R h [] ps = tt
+each-same P R h (l ∷ ls) ps = (h l (ps .0), each-same P R h ls (ps .1))
+
+-- from a fact of two lines and a fact of the later one
+pub each-with : (P : Line → Type 0) (R S : Line → Line → Type 0) → ((o l : Line) → P l → R o l → S o l) → (os ls : List Line) → Every P ls → Each R os ls
+    → Each S os ls
+unfolding Every Each
+each-with P R S h [] [] ps rs = tt
+each-with P R S h [] (l ∷ ls) ps rs = rs
+each-with P R S h (o ∷ os) [] ps rs = rs
+each-with P R S h (o ∷ os) (l ∷ ls) ps rs = (h o l (ps .0) (rs .0), each-with P R S h os ls (ps .1) (rs .1))
+
+pub each-weaker : (R S : Line → Line → Type 0) → ((o l : Line) → R o l → S o l) → (os ls : List Line) → Each R os ls → Each S os ls
+unfolding Each
+each-weaker R S h [] [] rs = tt
+each-weaker R S h [] (l ∷ ls) rs = rs
+each-weaker R S h (o ∷ os) [] rs = rs
+each-weaker R S h (o ∷ os) (l ∷ ls) rs = (h o l (rs .0), each-weaker R S h os ls (rs .1))
+
+pub each-map : (P : Line → Type 0) (R S : Line → Line → Type 0) (f : Line → Line) → ((o l : Line) → P l → R o l → S o (f l)) → (os ls : List Line) → Every P ls
+    → Each R os ls → Each S os (map f ls)
+unfolding Every Each
+each-map P R S f h [] [] ps rs = tt
+each-map P R S f h [] (l ∷ ls) ps rs = rs
+each-map P R S f h (o ∷ os) [] ps rs = rs
+each-map P R S f h (o ∷ os) (l ∷ ls) ps rs = (h o l (ps .0) (rs .0), each-map P R S f h os ls (ps .1) (rs .1))
+
+-- ---- what `quoted-line` keeps
+module _ (near : Millionths) (left : ℕ) (q : Quote) where
+  pub every-quoted : (P : Line → Type 0) → ((l : Line) → P l → P (quoted-line near left q l)) → (ls : List Line) → Every P ls
+      → Every P (quoted near left q ls)
+  unfolding Every quoted
+  every-quoted P h [] ps = tt
+  every-quoted P h (l ∷ ls) ps = go (eqb (l .terms .id) (q .id)) (every-quoted P h ls (ps .1))
+    where
+      go : (b : Bool) → Every P (quoted near left q ls) → Every P (cond b (quoted-line near left q l ∷ ls) (l ∷ quoted near left q ls))
+      go true more = (h l (ps .0), ps .1)
+      go false more = (ps .0, more)
+
+  pub each-quoted : (R : Line → Line → Type 0) → ((o l : Line) → R o l → R o (quoted-line near left q l)) → (os ls : List Line) → Each R os ls
+      → Each R os (quoted near left q ls)
+  unfolding Each quoted
+  each-quoted R h [] [] rs = tt
+  each-quoted R h [] (l ∷ ls) rs = absurd rs
+  each-quoted R h (o ∷ os) [] rs = rs
+  each-quoted R h (o ∷ os) (l ∷ ls) rs = go (eqb (l .terms .id) (q .id)) (each-quoted R h os ls (rs .1))
+    where
+      go : (b : Bool) → Each R os (quoted near left q ls) → Each R (o ∷ os) (cond b (quoted-line near left q l ∷ ls) (l ∷ quoted near left q ls))
+      go true more = (h o l (rs .0), rs .1)
+      go false more = (rs .0, more)

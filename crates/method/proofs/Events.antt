@@ -1,0 +1,84 @@
+-- What a byte string read as an event tells, what an accepted event tells, and that a shift changes no verdict. Assumes nothing.
+use mathlib.Core.Path.{_≡_, refl, ap, _∙_}
+use mathlib.Core.Bool.{Bool, true, false, cond, _&&_, _||_}
+use mathlib.Core.List.{List, [], _∷_, map}
+use Prim.Native.Nat.{ℕ, _-_}
+use native.Mathlib.Omega.{arith}
+use lib.Dec.{ltb, leb, eqb}
+use lib.IntN.{ℤ, pos}
+use lib.ListN.{length}
+use borrow.Author.Tests.{leb-true}
+use Rattle.numbers.specs.Ranges.{Between}
+use Rattle.numbers.specs.Tests.{same}
+use Rattle.numbers.proofs.Tests.{both, in-span-true}
+use Rattle.method.specs.Types.{Side, Seconds, Millionths, Line, Event, Damaged, Tick, Quoted, ShiftLine, State, EventReason, EventAnswer, seconds}
+use Rattle.method.specs.Wire.{word, signed, bit}
+use Rattle.method.specs.Opening.{known}
+use Rattle.method.specs.Pressure.{judge}
+use Rattle.method.specs.Shift.{moved-line, shift-line, shifted, onward, after}
+use Rattle.method.specs.Event.{price-good, price-of, read-tick, read-quote, read, in-session, verdict}
+use Rattle.method.specs.CalledFor.{time}
+use Rattle.method.specs.Ranges.{PriceIn, EventIn}
+use Rattle.method.proofs.Demands.{met-by, demand-keeps}
+
+-- ---- the prices that are read lie within 2,000,000,000
+price-in : (present : Bool) (z : ℤ) → price-good present z ≡ true → PriceIn (price-of present z)
+unfolding PriceIn
+price-in true z e = in-span-true 2_000_000_000 z e
+price-in false z e = tt
+
+tick-in : (t : Seconds) (id : ℕ) (bid ask : ℤ) → EventIn (read-tick t id bid ask)
+unfolding read-tick EventIn
+tick-in t id bid ask = demand-keeps EventIn (eqb id 0 && same bid (pos 0) && same ask (pos 0)) tt (λ e. tt)
+
+quote-in : (t : Seconds) (id flags : ℕ) (bid ask : ℤ) → EventIn (read-quote t id flags bid ask)
+unfolding read-quote EventIn
+quote-in t id flags bid ask =
+    demand-keeps EventIn (ltb flags 4 && price-good (bit 0 flags) bid && price-good (bit 1 flags) ask) tt
+    (λ e. let last = both (ltb flags 4 && price-good (bit 0 flags) bid) (price-good (bit 1 flags) ask) e in
+    let first = both (ltb flags 4) (price-good (bit 0 flags) bid) (last .0) in
+    (price-in (bit 0 flags) bid (first .1), price-in (bit 1 flags) ask (last .1)))
+
+pub read-in : (b : List ℕ) → EventIn (read b)
+unfolding read
+read-in b = demand-keeps EventIn (eqb (length b) 20) (unfold EventIn in tt) (λ e. go (eqb (word b 8) 4))
+  where
+    go : (c : Bool) → EventIn (cond c (read-tick (seconds (word b 0)) (word b 4) (signed (word b 12)) (signed (word b 16)))
+        (read-quote (seconds (word b 0)) (word b 4) (word b 8) (signed (word b 12)) (signed (word b 16))))
+    go true = tick-in (seconds (word b 0)) (word b 4) (signed (word b 12)) (signed (word b 16))
+    go false = quote-in (seconds (word b 0)) (word b 4) (word b 8) (signed (word b 12)) (signed (word b 16))
+
+-- ---- an accepted event's time lies between the clock and session end
+not-accepted : {why : EventReason} → EventAnswer.Refused why ≡ EventAnswer.Accepted → ⊥
+not-accepted e = let z : _≡_ {A = ℕ} 0 1 = cc in omega arith
+
+in-session-met : (s : State) (t : Seconds) (rest : EventAnswer) → in-session s t rest ≡ EventAnswer.Accepted → Between (s .clock .0) (s .end .0) (t .0)
+unfolding in-session
+in-session-met s t rest e =
+    let late = met-by (leb (t .0) (s .end .0)) not-accepted e in
+    let early = met-by (leb (s .clock .0) (t .0)) not-accepted (late .1) in
+    record { least = leb-true (s .clock .0) (t .0) (early .0); most = leb-true (t .0) (s .end .0) (late .0) }
+
+pub on-time : (s : State) (e : Event) → verdict s e ≡ EventAnswer.Accepted → Between (s .clock .0) (s .end .0) (time e .0)
+unfolding verdict
+on-time s Damaged h = absurd (not-accepted h)
+on-time s (Tick t) h = in-session-met s t _ h
+on-time s (Quoted q) h = in-session-met s (q .time) _ h
+
+-- ---- a shift leaves clock, end and ids, and so every verdict
+known-shifted : (near : Millionths) (left : ℕ) (side : Side) (now : Seconds) (id : ℕ) (ls : List Line)
+    → known id (map (shift-line near left side now) ls) ≡ known id ls
+unfolding known shift-line judge moved-line
+known-shifted near left side now id [] = refl
+known-shifted near left side now id (l ∷ ls) = ap (λ (b : Bool). eqb (l .terms .id) id || b) (known-shifted near left side now id ls)
+
+verdict-shifted : (side : Side) (now : Seconds) (s : State) (e : Event) → verdict (shifted side now s) e ≡ verdict s e
+unfolding verdict in-session shifted
+verdict-shifted side now s Damaged = refl
+verdict-shifted side now s (Tick t) = refl
+verdict-shifted side now s (Quoted q) = rw (known-shifted (s .near) (s .left - 1) side now (q .id) (s .lines))
+
+pub verdict-after : (cs : List ShiftLine) (s : State) (e : Event) → verdict (after cs s) e ≡ verdict s e
+unfolding after
+verdict-after [] s e = refl
+verdict-after (c ∷ cs) s e = verdict-after cs (onward s c) e ∙ verdict-shifted (c .side) (c .second) s e

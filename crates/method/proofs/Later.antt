@@ -1,0 +1,135 @@
+-- The moments of a session: right answers lead from one to another, and every moment keeps the ranges, and holds as they are to stand.
+-- What a shift and an applied event keep is so kept by every list of answers. Assumes nothing.
+use mathlib.Core.Path.{_≡_, refl, sym, ap, _∙_}
+use mathlib.Core.Bool.{Bool, true, false, _&&_}
+use mathlib.Core.List.{List, [], _∷_, _++_, append-nil, append-assoc}
+use Prim.Native.Nat.{ℕ, suc, _<_}
+use native.Mathlib.Omega.{arith}
+use lib.Dec.{ltb}
+use lib.ListN.{length, getD}
+use borrow.Author.Tests.{ltb-true}
+use Rattle.numbers.proofs.Tests.{both}
+use Rattle.method.specs.Types.{Up, Down, Seconds, Millionths, ShiftLine, State, blank}
+use Rattle.method.specs.Wire.{bit}
+use Rattle.method.specs.Pressure.{hold-of, presses}
+use Rattle.method.specs.Shift.{shifted, onward, after}
+use Rattle.method.specs.Event.{Answer, accepted, refused, read, next}
+use Rattle.method.specs.CalledFor.{First, Calls, time, Right, Answers, reached, lines-of, joined}
+use Rattle.method.specs.Ranges.{Every, OpeningIn, Opened, Sane}
+use Rattle.method.specs.Sound.{standing, Exact}
+use Rattle.method.specs.Later.{Later, start, shift, event}
+use Rattle.method.proofs.Every.{every-weaker, every-else}
+use Rattle.method.proofs.Exact.{exact-shifted, exact-applied, exact-opened}
+use Rattle.method.proofs.Events.{read-in, verdict-after}
+use Rattle.method.proofs.Sane.{sane-opening, sane-shifted, sane-applied}
+
+-- ---- answers lead from a moment to a moment
+-- the first of the shift lines that an event calls for
+pub moment-after : {o s : State} {cs : List ShiftLine} (t : Seconds) (ds es : List ShiftLine) → Later o cs s → Calls t s (ds ++ es)
+    → Later o (cs ++ ds) (after ds s)
+unfolding Calls after
+moment-after t [] es m h = rw append-nil m
+moment-after t (d ∷ ds) es m h = rw append-assoc at (moment-after t ds es (shift m t d (h .0)) (h .1))
+
+pub moment-next : {o s : State} {cs : List ShiftLine} (b : List ℕ) (a : Answer) → Later o cs s → Right s (read b) a
+    → Later o (cs ++ lines-of a) (next s (read b) a)
+unfolding Right next
+moment-next {s = s} b (accepted ds) m r =
+    event (moment-after (time (read b)) ds [] m (rw append-nil (r .1))) b (verdict-after ds s (read b) ∙ r .0)
+moment-next b (refused why) m r = rw append-nil m
+
+pub moment-reached : {o s : State} {cs : List ShiftLine} (bs : List (List ℕ)) (rs : List Answer) → Later o cs s → Answers s bs rs
+    → Later o (cs ++ joined rs) (reached s bs rs)
+unfolding Answers reached joined
+moment-reached [] [] m r = rw append-nil m
+moment-reached [] (a ∷ rs) m r = absurd r
+moment-reached (b ∷ bs) [] m r = absurd r
+moment-reached (b ∷ bs) (a ∷ rs) m r = rw append-assoc at (moment-reached bs rs (moment-next b a m (r .0)) (r .1))
+
+-- ---- what is split: a list of shift lines, and a list of answers
+after-rest : (cs ds : List ShiftLine) (s : State) → after (cs ++ ds) s ≡ after ds (after cs s)
+unfolding after
+after-rest [] ds s = refl
+after-rest (c ∷ cs) ds s = after-rest cs ds (onward s c)
+
+calls-rest : (t : Seconds) (cs ds : List ShiftLine) (s : State) → Calls t s (cs ++ ds) → Calls t (after cs s) ds
+unfolding Calls after
+calls-rest t [] ds s h = h
+calls-rest t (c ∷ cs) ds s h = calls-rest t cs ds (onward s c) (h .1)
+
+pub moment-rest : (s : State) (b : List ℕ) (cs ds : List ShiftLine) → Right s (read b) (accepted (cs ++ ds))
+    → Later (after cs s) ds (next s (read b) (accepted (cs ++ ds)))
+unfolding Right next
+moment-rest s b cs ds r =
+    rw (after-rest cs ds s)
+    (event (moment-after (time (read b)) ds [] start (rw append-nil (calls-rest (time (read b)) cs ds s (r .1)))) b
+    (verdict-after ds (after cs s) (read b) ∙ verdict-after cs s (read b) ∙ r .0))
+
+pub record Split (s : State) (bs ds : List (List ℕ)) (rs qs : List Answer) : Type 0 where
+  pub first : Answers s bs rs
+  pub rest : Answers (reached s bs rs) ds qs
+  pub last : reached s (bs ++ ds) (rs ++ qs) ≡ reached (reached s bs rs) ds qs
+
+pub answers-split : (s : State) (bs ds : List (List ℕ)) (rs qs : List Answer) → length bs ≡ length rs → Answers s (bs ++ ds) (rs ++ qs) → Split s bs ds rs qs
+unfolding Answers reached
+answers-split s [] ds [] qs e h = record { first = tt; rest = h; last = refl }
+answers-split s [] ds (a ∷ rs) qs e h = absurd (no e)
+  where
+    no : 0 ≡ suc (length rs) → ⊥
+    no e = omega arith
+answers-split s (b ∷ bs) ds [] qs e h = absurd (no e)
+  where
+    no : suc (length bs) ≡ 0 → ⊥
+    no e = omega arith
+answers-split s (b ∷ bs) ds (a ∷ rs) qs e h =
+    let p = answers-split (next s (read b) a) bs ds rs qs (omega arith) (h .1) in
+    record { first = (h .0, p .first); rest = p .rest; last = p .last }
+
+-- ---- a shift line that goes first has a standing hold, and so shifts are left
+silent : (a : Bool) → false ≡ (a && false)
+silent true = refl
+silent false = refl
+
+exact-blank : (near : Millionths) (left : ℕ) → Exact near left blank
+unfolding Exact presses bit
+exact-blank near left Up = silent (ltb 0 left)
+exact-blank near left Down = silent (ltb 0 left)
+
+pub shifts-left : (t : Seconds) (s : State) (c : ShiftLine) → Every (Exact (s .near) (s .left)) (s .lines) → First t s c → 0 < s .left
+unfolding Exact
+shifts-left t s c ps f =
+    let l = getD (s .lines) (f .place) blank in
+    let stands : standing (hold-of (c .side) (l .holds)) ≡ true = ap standing (f .stands .held) in
+    let e = every-else (Exact (s .near) (s .left)) (s .lines) blank (f .place) ps (exact-blank (s .near) (s .left)) (c .side) in
+    ltb-true 0 (s .left) (both (ltb 0 (s .left)) (presses (c .side) (s .near) l) (sym e ∙ stands) .0)
+
+-- ---- ranges and holds at every moment
+pub record Held (s : State) : Type 0 where
+  pub sane : Sane s
+  pub exact : Every (Exact (s .near) (s .left)) (s .lines)
+
+pub held-opening : (s : State) → OpeningIn s → Held s
+held-opening s o =
+    record { sane = sane-opening s o; exact = every-weaker Opened (Exact (s .near) (s .left)) (exact-opened (s .near) (s .left)) (s .lines) (o .lines) }
+
+held-onward : (t : Seconds) (s : State) (c : ShiftLine) → Held s → First t s c → Held (onward s c)
+held-onward t s c h f =
+    record {
+      sane = sane-shifted (c .side) (c .second) s (shifts-left t s c (h .exact) f) (omega (arith, f .before-end, h .sane .end)) (h .sane);
+      exact = unfold shifted in exact-shifted (c .side) (c .second) s;
+    }
+
+pub held-moment : {o s : State} {cs : List ShiftLine} → Held o → Later o cs s → Held s
+held-moment h start = h
+held-moment h (shift {s = s} m t c f) = held-onward t s c (held-moment h m) f
+held-moment h (event {s = s} m b v) =
+    let k = held-moment h m in
+    record { sane = sane-applied (read b) s v (read-in b) (k .sane); exact = exact-applied (read b) s (k .exact) }
+
+-- ---- so of what the code keeps: a state after the shift lines that it calls for, and after an answer
+module _ (s : State) (v : Sane s) (ps : Every (Exact (s .near) (s .left)) (s .lines)) where
+  pub sane-after : (t : Seconds) (cs : List ShiftLine) → Calls t s cs → Sane (after cs s)
+  sane-after t cs h = held-moment (record { sane = v; exact = ps }) (moment-after t cs [] start (rw append-nil h)) .sane
+
+  pub sane-next : (b : List ℕ) (a : Answer) → Right s (read b) a → Sane (next s (read b) a)
+  sane-next b a r = held-moment (record { sane = v; exact = ps }) (moment-next b a start r) .sane

@@ -1,0 +1,161 @@
+-- The ranges of one line: they hold at opening, and are kept by a shift, which uses one of those left, and by a quote. Assumes nothing.
+use mathlib.Core.Bool.{Bool, true, false, cond, _&&_}
+use Prim.Native.Nat.{ℕ, suc, _≤_}
+use native.Mathlib.Omega.{arith}
+use lib.Dec.{ltb, lit<}
+use lib.IntN.{ℤ, pos, _+ℤ_}
+use lib.Signed.{leZ-yes}
+use Rattle.numbers.specs.Ranges.{Within, Span}
+use Rattle.numbers.proofs.Halves.{zarith, apart, add-is}
+use Rattle.numbers.proofs.Linear.{≤ℤ-trans}
+use Rattle.numbers.proofs.Ranges.{within-more, within-pos, within-add, within-sub, within-mul, floor-within, ceiling-within, within-squeeze}
+use Rattle.method.specs.Types.{Side, Up, Down, Seconds, Millionths, Terms, Market, Absent, Hold, Idle, Since, Holds, Line, Quote, steps}
+use Rattle.method.specs.Bounds.{market-bound, factor, interest, bound}
+use Rattle.method.specs.Pressure.{presses, judged, judge}
+use Rattle.method.specs.Shift.{toward, moved, ended, moved-line, shift-line}
+use Rattle.method.specs.Event.{quoted-line}
+use Rattle.method.specs.Ranges.{FactorsIn, Opened, reach, MarketRoom, PriceIn, HoldIn, HoldsIn, Room}
+use Rattle.method.proofs.Redrawn.{limits-moved}
+
+-- ---- interest bounds and limits within 2,970,000,000
+cond-within : (b : Bool) {k x y : ℕ} → x ≤ k → y ≤ k → cond b x y ≤ k
+cond-within true h g = h
+cond-within false h g = g
+
+pub factor-in : (side : Side) {t : Terms} → FactorsIn t → factor side t ≤ 1_650_000_000
+unfolding factor
+factor-in Up {t} r = cond-within (t .below) (omega (arith, r .down .most)) (r .up .most)
+factor-in Down {t} r = cond-within (t .below) (r .up .most) (omega (arith, r .down .most))
+
+span-within : {k : ℕ} {z : ℤ} → Span (pos 1) (pos k) z → Within k z
+span-within {k} {z} r = record { above = omega (zarith, r .least, r .most, apart z); below = omega (zarith, r .least, apart z) }
+
+pub market-bound-in : (side : Side) {left : ℕ} {m : Market} → MarketRoom left m → Within 1_800_000_000 (market-bound side (m .centre) (m .half1))
+market-bound-in Up r = within-more (within-add (r .centre) (span-within (r .half1))) (omega arith)
+market-bound-in Down r = within-more (within-sub (r .centre) (span-within (r .half1))) (omega arith)
+
+interest-within : (side : Side) (f : ℕ) {z : ℤ} → f ≤ 1_650_000_000 → Within 1_800_000_000 z → Within 2_970_000_000 (interest side f z)
+unfolding interest
+interest-within Up f h w = ceiling-within 2_970_000_000 1_000_000_000 (lit< tt) (within-mul w (within-pos h))
+interest-within Down f h w = floor-within 2_970_000_000 1_000_000_000 (lit< tt) (within-mul w (within-pos h))
+
+pub bound-in : (side : Side) {left : ℕ} {t : Terms} {m : Market} → FactorsIn t → MarketRoom left m → Within 2_970_000_000 (bound side t m)
+unfolding bound
+bound-in side {left} {t} {m} f r = interest-within side (factor side t) (factor-in side f) (market-bound-in side r)
+
+module _ {left : ℕ} {l : Line} (r : Room left l) where
+  pub upper-in : Within 2_970_000_000 (l .limits .upper .0)
+  upper-in =
+      let k = r .limits in
+      within-squeeze (bound Down (l .terms) (l .market)) (l .limits .upper .0) (bound Up (l .terms) (l .market)) (≤ℤ-trans (k .lower) (k .ordered)) (k .upper)
+      (bound-in Down (r .terms .factors) (r .market)) (bound-in Up (r .terms .factors) (r .market))
+
+  pub lower-in : Within 2_970_000_000 (l .limits .lower .0)
+  lower-in =
+      let k = r .limits in
+      within-squeeze (bound Down (l .terms) (l .market)) (l .limits .lower .0) (bound Up (l .terms) (l .market)) (k .lower) (≤ℤ-trans (k .ordered) (k .upper))
+      (bound-in Down (r .terms .factors) (r .market)) (bound-in Up (r .terms .factors) (r .market))
+
+-- ---- a shift: the market
+half-moved : (left : ℕ) (h by : ℤ) → left ≤ 15 → Span (pos 1) (pos 50_000_000) by → Span (pos 1) (pos (reach (suc left))) h
+    → Span (pos 1) (pos (reach left)) (h +ℤ by)
+half-moved left h by few s r = record { least = omega (zarith, add-is h by, s .least, r .least); most = omega (zarith, add-is h by, s .most, r .most) }
+
+centre-moved : (side : Side) (left : ℕ) (c by : ℤ) → left ≤ 15 → Span (pos 1) (pos 50_000_000) by → Within (reach (suc left)) c
+    → Within (reach left) (toward side (steps by) (steps c) .0)
+centre-moved Up left c by few s w = within-more (within-add w (span-within s)) (omega arith)
+centre-moved Down left c by few s w = within-more (within-sub w (span-within s)) (omega arith)
+
+market-moved : (side : Side) (left : ℕ) (t : Terms) (m : Market) → left ≤ 15 → Span (pos 1) (pos 50_000_000) (t .halfmove .0) → MarketRoom (suc left) m
+    → MarketRoom left (moved side (t .halfmove) m)
+unfolding moved
+market-moved side left t m few s r =
+    record {
+      centre = centre-moved side left (m .centre .0) (t .halfmove .0) few s (r .centre);
+      half1 = half-moved left (m .half1 .0) (t .halfmove .0) few s (r .half1);
+      half2 = half-moved left (m .half2 .0) (t .halfmove .0) few s (r .half2);
+      half3 = half-moved left (m .half3 .0) (t .halfmove .0) few s (r .half3);
+    }
+
+-- ---- a shift: the holds
+idle-in : HoldIn Idle
+unfolding HoldIn
+idle-in = tt
+
+ended-in : (side : Side) {h : Holds} → HoldsIn h → HoldsIn (ended side h)
+ended-in Up r = record { up = idle-in; down = r .down }
+ended-in Down r = record { up = r .up; down = idle-in }
+
+judged-in : (now : Seconds) (pressed : Bool) (h : Hold) → now .0 ≤ 172_800 → HoldIn h → HoldIn (judged now pressed h)
+unfolding judged HoldIn
+judged-in now false h e i = tt
+judged-in now true Idle e i = e
+judged-in now true (Since start) e i = i
+
+pub room-judge : (near : Millionths) (left : ℕ) (now : Seconds) {k : ℕ} {l : Line} → now .0 ≤ 172_800 → Room k l → Room k (judge near left now l)
+unfolding judge
+room-judge near left now {k} {l} h r =
+    record {
+      terms = r .terms;
+      market = r .market;
+      limits = r .limits;
+      book = r .book;
+      holds =
+          record {
+            up = judged-in now (ltb 0 left && presses Up near l) (l .holds .up) h (r .holds .up);
+            down = judged-in now (ltb 0 left && presses Down near l) (l .holds .down) h (r .holds .down);
+          };
+    }
+
+-- ---- the whole line: shifted, quoted, opened
+pub room-moved : (side : Side) {left : ℕ} {l : Line} → left ≤ 15 → Room (suc left) l → Room left (moved-line side l)
+unfolding moved-line
+room-moved side {left} {l} few r =
+    record {
+      terms = r .terms;
+      market = market-moved side left (l .terms) (l .market) few (r .terms .halfmove) (r .market);
+      limits = limits-moved side (l .terms) (l .market) (l .limits) (≤ℤ-trans (leZ-yes tt) (r .terms .halfmove .least)) (r .limits);
+      book = r .book;
+      holds = ended-in side (r .holds);
+    }
+
+pub room-shifted : (near : Millionths) (left : ℕ) (side : Side) (now : Seconds) {l : Line} → left ≤ 15 → now .0 ≤ 172_800 → Room (suc left) l
+    → Room left (shift-line near left side now l)
+unfolding shift-line
+room-shifted near left side now few h r = room-judge near left now h (room-moved side few r)
+
+pub room-quoted : (near : Millionths) (left : ℕ) (q : Quote) {l : Line} → q .time .0 ≤ 172_800 → PriceIn (q .bid) → PriceIn (q .ask) → Room left l
+    → Room left (quoted-line near left q l)
+unfolding quoted-line
+room-quoted near left q h bid ask r =
+    room-judge near left (q .time) h
+    (record { terms = r .terms; market = r .market; limits = r .limits; book = record { bid = bid; ask = ask }; holds = r .holds })
+
+half-opened : {left : ℕ} {h : ℤ} → left ≤ 16 → Span (pos 1) (pos 100_000_000) h → Span (pos 1) (pos (reach left)) h
+half-opened few r = record { least = r .least; most = omega (zarith, r .most) }
+
+absent-in : PriceIn Absent
+unfolding PriceIn
+absent-in = tt
+
+pub room-opened : {left : ℕ} {l : Line} → left ≤ 16 → Opened l → Room left l
+room-opened few o =
+    record {
+      terms = o .terms;
+      market =
+          record {
+            centre = within-more (o .market .centre) (omega arith);
+            half1 = half-opened few (o .market .half1);
+            half2 = half-opened few (o .market .half2);
+            half3 = half-opened few (o .market .half3);
+          };
+      limits =
+          record {
+            upper = o .limits .upper;
+            lower = o .limits .lower;
+            ordered = ≤ℤ-trans (o .limits .under-centre) (o .limits .over-centre);
+            floor = o .limits .floor;
+          };
+      book = rw (o .book) (record { bid = absent-in; ask = absent-in });
+      holds = rw (o .holds) (record { up = idle-in; down = idle-in });
+    }

@@ -1,0 +1,18 @@
+-- The moments of a session: every state on the way, also those between the shifts of one event.
+use mathlib.Core.Path.{_≡_}
+use mathlib.Core.List.{List, [], _∷_, _++_}
+use Prim.Native.Nat.{ℕ}
+use Rattle.method.specs.Types.{Seconds, ShiftLine, State, EventAnswer}
+use Rattle.method.specs.Shift.{onward}
+use Rattle.method.specs.Event.{read, verdict, applied}
+use Rattle.method.specs.CalledFor.{First}
+
+-- The session that stood at o stands at s, and cs are the shift lines made on the way. A session changes by the shift of the hold that
+-- goes first and by an accepted event that is applied, and by nothing else. (An event that is applied before all due holds are served makes
+-- a moment too, so that more is said of moments than a session asks. That right answers lead to moments is proved.)
+pub data Later (o : State) : List ShiftLine → State → Type 0 where
+  start : Later o [] o
+  shift : {cs : List ShiftLine} {s : State} → Later o cs s → (t : Seconds) (c : ShiftLine) → First t s c → Later o (cs ++ (c ∷ [])) (onward s c)
+  event :
+      {cs : List ShiftLine} {s : State} → Later o cs s → (b : List ℕ) → verdict s (read b) ≡ EventAnswer.Accepted
+      → Later o cs (applied (read b) s)
