@@ -18,7 +18,7 @@ module _
   unfolding shifted
   onward-keeps s c h = every-map P P _ (on-shift (s .near) (s .left - 1) (c .side) (c .second)) (s .lines) h
 
-  after-keeps : (cs : List ShiftLine) (s : State) → Every P (s .lines) → Every P (after cs s .lines)
+  pub after-keeps : (cs : List ShiftLine) (s : State) → Every P (s .lines) → Every P (after cs s .lines)
   unfolding after
   after-keeps [] s h = h
   after-keeps (c ∷ cs) s h = after-keeps cs (onward s c) (onward-keeps s c h)

@@ -1,4 +1,4 @@
--- The life of a hold, over a shift and over an event, for the line at every place. What judges a hold is opened here and nowhere after:
+-- The life of a hold, over a shift and over an event, for the line at every place. `judged` is opened here and nowhere after:
 -- the laws below are all that the run's laws know of it. Assumes nothing.
 use mathlib.Core.Path.{_≡_, refl, sym, ap, _∙_}
 use mathlib.Core.Bool.{Bool, true, false, cond, _&&_, true≢false, false≢true}

@@ -2,7 +2,7 @@
 -- its line has pressed, at every moment since its start. Assumes nothing.
 use mathlib.Core.Path.{_≡_, refl, sym, ap, _∙_}
 use mathlib.Core.Logic.{_⊎_, inl, inr, ⊎-elim}
-use mathlib.Core.List.{List, [], _∷_, _++_, List·Memᴰ, List·Memᴰ·head, List·Memᴰ·tail}
+use mathlib.Core.List.{List, [], _∷_, _++_}
 use Prim.Native.Nat.{ℕ, _≤_, _<_}
 use native.Mathlib.Omega.{arith}
 use Rattle.method.specs.Types.{Side, Seconds, Idle, Since, Event, ShiftLine, State}
@@ -78,40 +78,56 @@ module _ (side : Side) (place : ℕ) (start : Seconds) where
         (λ l. record { held = r .0 l; pressed = held-pressed (n .state) side place (h .0 .judged) (r .0 l) .1 }, r .1),
       )
 
-  -- and at one moment at that very second, unless it stood at the first
+  -- and from a moment at that very second on, unless it has stood from the first
   record Begun (ns : List Moment) : Type 0 where
-    moment : Moment
-    among : List·Memᴰ moment ns
-    at-start : moment .second ≡ start
-    pressing : Pressing side place start moment
+    earlier : List Moment
+    began : Moment
+    later : List Moment
+    split : ns ≡ earlier ++ began ∷ later
+    at-start : began .second ≡ start
+    from-there : Every (Pressing side place start) (began ∷ later)
 
-  begun : (m : Moment) (ns : List Moment) → Chain m ns → Held (last m ns) → Held m ⊎ Begun ns
-  unfolding Chain last
-  begun m [] h e = inl e
+  abbrev Throughout : Moment → List Moment → Type 0
+  Throughout m ns = Held m × Every (Pressing side place start) ns
+
+  begun : (m : Moment) (ns : List Moment) → Chain m ns → Held (last m ns) → Throughout m ns ⊎ Begun ns
+  unfolding Chain last Every
+  begun m [] h e = inl (e, tt)
   begun m (n ∷ ns) h e = go (begun n ns (h .1) e)
     where
-      here : Held n → (start ≡ n .second) ⊎ Held m → Held m ⊎ Begun (n ∷ ns)
-      here k (inl p) =
-          inr (record {
-            moment = n;
-            among = List·Memᴰ·head refl;
-            at-start = sym p;
-            pressing = record { held = k; pressed = held-pressed (n .state) side place (h .0 .judged) k .1 };
-          })
-      here k (inr p) = inl p
+      here : Every (Pressing side place start) (n ∷ ns) → (start ≡ n .second) ⊎ Held m → Throughout m (n ∷ ns) ⊎ Begun (n ∷ ns)
+      here k (inl p) = inr (record { earlier = []; began = n; later = ns; split = refl; at-start = sym p; from-there = k })
+      here k (inr p) = inl (p, k)
 
-      go : Held n ⊎ Begun ns → Held m ⊎ Begun (n ∷ ns)
-      go (inl k) = here k (h .0 .held side place start k)
+      go : Throughout n ns ⊎ Begun ns → Throughout m (n ∷ ns) ⊎ Begun (n ∷ ns)
+      go (inl k) =
+          let pressed = held-pressed (n .state) side place (h .0 .judged) (k .0) .1 in
+          here (record { held = k .0; pressed = pressed }, k .1) (h .0 .held side place start (k .0))
       go (inr b) =
-          inr (record { moment = b .moment; among = List·Memᴰ·tail (b .among); at-start = b .at-start; pressing = b .pressing })
+          inr (record {
+            earlier = n ∷ b .earlier;
+            began = b .began;
+            later = b .later;
+            split = ap {B = List Moment} (λ k. n ∷ k) (b .split);
+            at-start = b .at-start;
+            from-there = b .from-there;
+          })
 
   chain-unbroken : (m : Moment) (ns : List Moment) → Chain m ns → Held (last m ns) → (Held m → ⊥) → Unbroken side place start ns
   chain-unbroken m ns h e none = go (begun m ns h e)
     where
-      go : Held m ⊎ Begun ns → Unbroken side place start ns
-      go (inl k) = absurd (none k)
+      go : Throughout m ns ⊎ Begun ns → Unbroken side place start ns
+      go (inl k) = absurd (none (k .0))
       go (inr b) =
-          record { began = b .moment; among = b .among; at-start = b .at-start; pressing = b .pressing; ever-since = stood m ns h e .1 }
+          record {
+            earlier = b .earlier;
+            began = b .began;
+            later = b .later;
+            split = b .split;
+            at-start = b .at-start;
+            from-there = b .from-there;
+            ever-since = stood m ns h e .1;
+          }
 
 -- ---- the moments of a run form a chain, from its first state on
 abbrev now : State → Moment

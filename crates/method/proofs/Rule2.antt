@@ -6,7 +6,7 @@ use Rattle.method.specs.Types.{ShiftLine, State, EventReason, EventAnswe
 use Rattle.method.specs.Table.{opening, opened}
 use Rattle.method.specs.Shift.{after}
 use Rattle.method.specs.Event.{read, verdict, Answer, next}
-use Rattle.method.specs.CalledFor.{time, Right, Answers, reached, joined}
+use Rattle.method.specs.CalledFor.{First, Calls, time, Right, Answers, reached, joined}
 use Rattle.method.specs.Search.{answer, run, finally}
 use Rattle.method.specs.Sound.{Sound}
 use Rattle.method.specs.Rule2.{
@@ -26,9 +26,9 @@ use Rattle.method.specs.Rule2.{
 }
 use Rattle.method.proofs.Every.{every-weaker, every-middle}
 use Rattle.method.proofs.Table.{accepted-table}
-use Rattle.method.proofs.EveryLine.{reached-keeps}
+use Rattle.method.proofs.EveryLine.{after-keeps, reached-keeps}
 use Rattle.method.proofs.HoldLife.{onward-life, applied-life}
-use Rattle.method.proofs.Serving.{after-judged, calls-first, first-caller}
+use Rattle.method.proofs.Serving.{after-kept, after-judged, calls-rest, first-caller}
 use Rattle.method.proofs.Answers.{
   opening-idle,
   sound-opening,
@@ -68,7 +68,8 @@ sound-told table o e past told h = sound-reached o past told (sound-opening tabl
 pub rule2-called-for : EachLineCalledFor
 rule2-called-for table o e past told b cs c ds h r =
     let s : State = reached o past told in
-    let by : Caller (after cs s) c = first-caller (calls-first (time (read b)) s cs c ds (unfold Right in r .1)) in
+    let first : First (time (read b)) (after cs s) c = unfold Calls in calls-rest (time (read b)) s cs (c ∷ ds) (unfold Right in r .1) .0 in
+    let by : Caller (after cs s) c = first-caller first in
     let all = next-timely s (read b) (cs ++ c ∷ ds) (sound-told table o e past told h) r in
     record {
       caller = by;
@@ -90,11 +91,13 @@ pub rule2-nothing-left : NothingLeft
 rule2-nothing-left table o e past told b cs h r = next-done (reached o past told) (read b) cs (sound-told table o e past told h) r
 
 pub rule2-none-missed : NoneMissed
-rule2-none-missed table o e past told b cs h r x k p q =
+rule2-none-missed table o e past told b cs ds h r x k p q =
     let s : State = reached o past told in
+    let v : Sound s = sound-told table o e past told h in
     let fit-o = every-weaker _ Fit fit-opened (o .lines) (accepted-table table o e .state .lines) in
-    let fit = reached-keeps Fit fit-shift fit-quote o past told fit-o in
-    calls-answer (time (read b)) s cs x fit (sound-told table o e past told h .exact) (unfold Right in r .1) k p (rw (end-reached o past told) q)
+    let fit-s = reached-keeps Fit fit-shift fit-quote o past told fit-o in
+    calls-answer (time (read b)) (after cs s) ds x (after-keeps Fit fit-shift fit-quote cs s fit-s) (after-judged cs s (v .exact))
+    (calls-rest (time (read b)) s cs ds (unfold Right in r .1)) k p (rw (after-kept cs s .end, end-reached o past told) q)
 
 -- ---- 5
 pub rule2-over-a-shift : HoldOverShift

@@ -190,12 +190,11 @@ unfolding Calls after
 calls-done t s [] h = h
 calls-done t s (c ∷ cs) h = calls-done t (onward s c) cs (h .1)
 
--- ---- the hold behind a shift line
-pub calls-first : (t : Seconds) (s : State) (cs : List ShiftLine) (c : ShiftLine) (ds : List ShiftLine) → Calls t s (cs ++ c ∷ ds)
-    → First t (after cs s) c
+-- ---- the lines after some first ones, and the hold behind a line
+pub calls-rest : (t : Seconds) (s : State) (cs ds : List ShiftLine) → Calls t s (cs ++ ds) → Calls t (after cs s) ds
 unfolding Calls after
-calls-first t s [] c ds h = h .0
-calls-first t s (b ∷ cs) c ds h = calls-first t (onward s b) cs c ds (h .1)
+calls-rest t s [] ds h = h
+calls-rest t s (c ∷ cs) ds h = calls-rest t (onward s c) cs ds (h .1)
 
 pub first-caller : {t : Seconds} {s : State} {c : ShiftLine} → First t s c → Caller s c
 first-caller {s = s} {c = c} f =

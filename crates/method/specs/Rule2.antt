@@ -75,12 +75,14 @@ pub record Pressing (side : Side) (place : ℕ) (start : Seconds) (m : Moment) :
   pub held : hold-at side (m .state) place ≡ Since start
   pub pressed : presses-at side (m .state) place ≡ true
 
--- The line has pressed without a break since `start`: from a moment at that second on, and at all later ones.
+-- The line has pressed without a break since `start`: from a moment at that second on, and so at all moments later than that second.
 pub record Unbroken (side : Side) (place : ℕ) (start : Seconds) (ms : List Moment) : Type 0 where
+  pub earlier : List Moment
   pub began : Moment
-  pub among : List·Memᴰ began ms
+  pub later : List Moment
+  pub split : ms ≡ earlier ++ began ∷ later
   pub at-start : began .second ≡ start
-  pub pressing : Pressing side place start began
+  pub from-there : Every (Pressing side place start) (began ∷ later)
   pub ever-since : Every (λ m. start .0 < m .second .0 → Pressing side place start m) ms
 
 pub record CalledFor (o : State) (past : List (List ℕ)) (told : List Answer) (b : List ℕ) (cs : List ShiftLine) (c : ShiftLine) : Type 0 where
@@ -143,14 +145,15 @@ pub data Answered (x : Due) (left : ℕ) (cs : List ShiftLine) : Type 0 where
   by-shift : (c : ShiftLine) → List·Memᴰ c cs → c .side ≡ x .side → c .second .0 ≤ x .second .0 → Answered x left cs
   all-made : length cs ≡ left → Answered x left cs
 
--- And none was missed: every hold that stood before the event and was due at or before its time and before session end was answered. No
--- shift is late. (rule2-none-missed)
+-- And none was missed: every hold that stood before the event (cs is empty), or between its shift lines cs and ds, and was due at or before
+-- its time and before session end, was answered by the lines that followed. No shift is late. (rule2-none-missed)
 abbrev pub NoneMissed : Type 0
 NoneMissed =
-    (table : List ℕ) (o : State) → opening table ≡ opened o → (past : List (List ℕ)) (told : List Answer) (b : List ℕ) (cs : List ShiftLine)
-    → Answers o past told → Right (reached o past told) (read b) (accepted cs)
-    → (x : Due) → Stands (reached o past told) x → x .second .0 ≤ time (read b) .0 → x .second .0 < o .end .0
-    → Answered x (reached o past told .left) cs
+    (table : List ℕ) (o : State) → opening table ≡ opened o
+    → (past : List (List ℕ)) (told : List Answer) (b : List ℕ) (cs ds : List ShiftLine)
+    → Answers o past told → Right (reached o past told) (read b) (accepted (cs ++ ds))
+    → (x : Due) → Stands (after cs (reached o past told)) x → x .second .0 ≤ time (read b) .0 → x .second .0 < o .end .0
+    → Answered x (after cs (reached o past told) .left) ds
 
 -- ---- 5. the life of a hold
 -- "A hold starts when pressure starts, ends when it ends, and is untouched by a quote under which pressure goes on." "Once the most shifts
