@@ -1,0 +1,39 @@
+-- What the steps of the bounds come to fits an `i64`, from what they ask. Assumes nothing.
+use Prim.Native.Nat.{ℕ, _≤_, _<_, _^_}
+use native.Mathlib.Omega.{arith}
+use lib.Dec.{lit<}
+use lib.IntN.{ℤ, pos, _+ℤ_, _-ℤ_, _*ℤ_}
+use mir.Syntax.{w64}
+use mir.Val.{SFits}
+use Rattle.numbers.specs.Ranges.{Within}
+use Rattle.numbers.proofs.Ranges.{fits, within-add, within-sub, within-mul, within-pos}
+use Rattle.numbers.proofs.Machine.{cast-back}
+use Rattle.method.specs.Bounds.{market-bound, factor}
+use Rattle.method.proofs.Rooms.{factor-in}
+use Rattle.line.specs.Names.{Side, Up, Down, Steps, Terms, Market}
+use Rattle.line.specs.Asks.{Drawn}
+
+pub sum-fits : {x y : ℤ} → Within 900_000_000 x → Within 900_000_000 y → SFits w64 (x +ℤ y)
+sum-fits v w = fits (within-add v w) (lit< tt)
+
+pub difference-fits : {x y : ℤ} → Within 900_000_000 x → Within 900_000_000 y → SFits w64 (x -ℤ y)
+difference-fits v w = fits (within-sub v w) (lit< tt)
+
+pub ruleset sums = (sum-fits, difference-fits)
+
+pub factor-fits : {f : ℕ} → f ≤ 1_650_000_000 → f < 2 ^ 63
+factor-fits h = omega arith
+
+pub product-fits : {f : ℕ} {z : ℤ} → f ≤ 1_650_000_000 → Within 1_800_000_000 z → SFits w64 (z *ℤ pos f)
+product-fits h w = fits (within-mul w (within-pos h)) (lit< tt)
+
+pub ruleset products = (factor-fits, product-fits, cast-back)
+
+-- ---- what a bound's parts are asked
+module _ {t : Terms} {m : Market} (d : Drawn t m) where
+  pub drawn-factor : (side : Side) → factor side t ≤ 1_650_000_000
+  drawn-factor side = factor-in side (d .factors)
+
+  pub drawn-bound : (side : Side) → Within 1_800_000_000 (market-bound side (m .centre) (m .half1))
+  drawn-bound Up = within-add (d .centre) (d .half1)
+  drawn-bound Down = within-sub (d .centre) (d .half1)

@@ -1,0 +1,11 @@
+-- What the functions of this crate ask, and their callers show.
+use Prim.Native.Nat.{ℕ, _≤_, _<_}
+use Rattle.numbers.specs.Ranges.{Within}
+use Rattle.method.specs.Ranges.{FactorsIn}
+use Rattle.line.specs.Names.{Terms, Market}
+
+-- what an interest bound asks
+pub record Drawn (t : Terms) (m : Market) : Type 0 where
+  pub factors : FactorsIn t
+  pub centre : Within 900_000_000 (m .centre .0)
+  pub half1 : Within 900_000_000 (m .half1 .0)

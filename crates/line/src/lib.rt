@@ -1,0 +1,3 @@
+// One contract: its opening numbers, its interest bounds, and what pressure, a shift and a quote do to it.
+
+pub mod bounds;
