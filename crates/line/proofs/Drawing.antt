@@ -8,8 +8,8 @@ use mir.Val.{SFits}
 use Rattle.numbers.specs.Ranges.{Within}
 use Rattle.numbers.proofs.Ranges.{fits, within-add, within-sub, within-mul, within-pos}
 use Rattle.numbers.proofs.Machine.{cast-back}
-use Rattle.method.specs.Bounds.{market-bound, factor}
-use Rattle.method.proofs.Rooms.{factor-in}
+use Rattle.method.specs.Bounds.{market-bound, factor, bound}
+use Rattle.method.proofs.Rooms.{factor-in, interest-within}
 use Rattle.line.specs.Names.{Side, Up, Down, Steps, Terms, Market}
 use Rattle.line.specs.Asks.{Drawn}
 
@@ -37,3 +37,7 @@ module _ {t : Terms} {m : Market} (d : Drawn t m) where
   pub drawn-bound : (side : Side) → Within 1_800_000_000 (market-bound side (m .centre) (m .half1))
   drawn-bound Up = within-add (d .centre) (d .half1)
   drawn-bound Down = within-sub (d .centre) (d .half1)
+
+  pub drawn-within : (side : Side) → Within 2_970_000_000 (bound side t m)
+  unfolding bound
+  drawn-within side = interest-within side (factor side t) (drawn-factor side) (drawn-bound side)

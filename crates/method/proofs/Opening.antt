@@ -70,7 +70,7 @@ contract-in c e =
     }
 
 -- ---- a product of a number and a natural one, both in their ranges
-product-in : (z : ℤ) (n j k : ℕ) → Span (pos 1) (pos j) z → Between 1 k n → Span (pos 1) (pos (j * k)) (z *ℤ pos n)
+pub product-in : (z : ℤ) (n j k : ℕ) → Span (pos 1) (pos j) z → Between 1 k n → Span (pos 1) (pos (j * k)) (z *ℤ pos n)
 product-in (pos m) n j k r s = record { least = omega (zarith, mul-le-mul (positive (r .least)) (s .least)); most = omega (zarith, mul-le-mul (most (r .most)) (s .most)) }
   where
     positive : pos 1 ≤ℤ pos m → 1 ≤ m
@@ -81,7 +81,7 @@ product-in (pos m) n j k r s = record { least = omega (zarith, mul-le-mul (posit
 product-in (negsuc m) n j k r s = absurd (r .least .le)
 
 -- ---- the half-widths
-normal-in : (c : Contract) → ContractIn c → Span (pos 1) (pos 100_000_000) (normal-price c)
+pub normal-in : (c : Contract) → ContractIn c → Span (pos 1) (pos 100_000_000) (normal-price c)
 unfolding normal-price
 normal-in c r = go (ltZ (pos (natAbs (c .spot .0))) (c .least .0)) refl
   where
@@ -91,13 +91,13 @@ normal-in c r = go (ltZ (pos (natAbs (c .spot .0))) (c .least .0)) refl
         let h = lt-false (pos (natAbs (c .spot .0))) (c .least .0) e in
         record { least = omega (zarith, r .least .least); most = omega (zarith, abs-is (c .spot .0), apart (c .spot .0), r .spot) }
 
-half-width-in : (c : Contract) (rate : Millionths) → ContractIn c → Between 1 1_000_000 (rate .0) → Span (pos 1) (pos 100_000_000) (half-width c rate .0)
+pub half-width-in : (c : Contract) (rate : Millionths) → ContractIn c → Between 1 1_000_000 (rate .0) → Span (pos 1) (pos 100_000_000) (half-width c rate .0)
 unfolding half-width
 half-width-in c rate r s =
     let p = product-in (normal-price c) (rate .0) 100_000_000 1_000_000 (normal-in c r) s in
     record { least = ceiling-mono {a = pos 1} 1_000_000 (p .least); most = ceiling-mono {b = pos 100_000_000_000_000} 1_000_000 (p .most) }
 
-market-in : (c : Contract) → ContractIn c → MarketIn (market-of c)
+pub market-in : (c : Contract) → ContractIn c → MarketIn (market-of c)
 unfolding market-of
 market-in c r =
     record {

@@ -27,14 +27,14 @@ unfolding factor
 factor-in Up {t} r = cond-within (t .below) (omega (arith, r .down .most)) (r .up .most)
 factor-in Down {t} r = cond-within (t .below) (r .up .most) (omega (arith, r .down .most))
 
-span-within : {k : ℕ} {z : ℤ} → Span (pos 1) (pos k) z → Within k z
+pub span-within : {k : ℕ} {z : ℤ} → Span (pos 1) (pos k) z → Within k z
 span-within {k} {z} r = record { above = omega (zarith, r .least, r .most, apart z); below = omega (zarith, r .least, apart z) }
 
 pub market-bound-in : (side : Side) {left : ℕ} {m : Market} → MarketRoom left m → Within 1_800_000_000 (market-bound side (m .centre) (m .half1))
 market-bound-in Up r = within-more (within-add (r .centre) (span-within (r .half1))) (omega arith)
 market-bound-in Down r = within-more (within-sub (r .centre) (span-within (r .half1))) (omega arith)
 
-interest-within : (side : Side) (f : ℕ) {z : ℤ} → f ≤ 1_650_000_000 → Within 1_800_000_000 z → Within 2_970_000_000 (interest side f z)
+pub interest-within : (side : Side) (f : ℕ) {z : ℤ} → f ≤ 1_650_000_000 → Within 1_800_000_000 z → Within 2_970_000_000 (interest side f z)
 unfolding interest
 interest-within Up f h w = ceiling-within 2_970_000_000 1_000_000_000 (lit< tt) (within-mul w (within-pos h))
 interest-within Down f h w = floor-within 2_970_000_000 1_000_000_000 (lit< tt) (within-mul w (within-pos h))

@@ -3,7 +3,7 @@ use mathlib.Core.Path.{_≡_, refl, sym, subst, ap, _∙_}
 use mathlib.Core.Bool.{Bool, true, false, not, _&&_, true≢false}
 use Prim.Native.Nat.{ℕ}
 use lib.Dec.{T, lt→ltb, nleb→lt, eqb-refl}
-use borrow.Author.Tests.{leb-true, eqb-true, le-leb}
+use borrow.Author.Tests.{leb-true, eqb-true, le-leb, not-true, not-false}
 use lib.IntN.{ℤ, pos, negsuc, negℤ}
 use lib.Signed.{leZ, ltZ, _≤ℤ_, _<ℤ_, ltZ-no}
 use Rattle.numbers.specs.Ranges.{Within, Between, Span}
@@ -30,6 +30,13 @@ both-true e f = rw (e, f)
 -- a test that fails where what it decides holds
 pub never-both : {A : Type 0} {t : Bool} → t ≡ false → t ≡ true → A
 never-both e f = absurd (true≢false (sym f ∙ e))
+
+-- what `if !test(..) { return .. }` tells of the test t, whose result is r: that it failed, or, past it, that it held
+pub failed : {r t : Bool} → r ≡ t → not r ≡ true → t ≡ false
+failed {r} e f = sym e ∙ not-true r f
+
+pub held : {r t : Bool} → r ≡ t → not r ≡ false → t ≡ true
+held {r} e f = sym e ∙ not-false r f
 
 -- ---- orders
 pub lt-true : (a b : ℤ) → ltZ a b ≡ true → a <ℤ b

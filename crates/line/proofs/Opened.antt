@@ -1,0 +1,128 @@
+-- What the steps of the opening numbers come to fits an `i64`, from the contract's ranges. Assumes nothing.
+use mathlib.Core.Path.{_≡_}
+use mathlib.Core.Bool.{true, false}
+use Prim.Native.Nat.{ℕ, _≤_, _<_, _^_}
+use native.Mathlib.Omega.{arith}
+use lib.Dec.{lit<, lit≤}
+use lib.IntN.{ℤ, pos, natAbs, _+ℤ_, _-ℤ_, _*ℤ_}
+use lib.Signed.{ltZ, _≤ℤ_, _<ℤ_}
+use mir.Syntax.{w64}
+use mir.Val.{SFits, toZ, ofZ}
+use mir.Facts.{toZ-ofZ}
+use Rattle.numbers.specs.Ranges.{Within, Between, Span}
+use Rattle.numbers.specs.Rounding.{floor, ceiling}
+use Rattle.numbers.proofs.Halves.{zarith, apart, abs-is, sub-is}
+use Rattle.numbers.proofs.Ranges.{fits, floor-within, within-add, within-sub, within-lit, within-mul, within-pos, within-more}
+use Rattle.numbers.proofs.Machine.{cast-back}
+use Rattle.method.specs.Bounds.{bound}
+use Rattle.method.specs.Opening.{normal-price, corridor-half}
+use Rattle.method.specs.Ranges.{ContractIn}
+use Rattle.method.proofs.Opening.{normal-in}
+use Rattle.method.proofs.Rooms.{span-within}
+use Rattle.line.specs.Names.{Up, Down, Millionths, Contract, Terms, Market, Limits, steps}
+use Rattle.line.specs.Asks.{Spanned}
+use Rattle.line.proofs.Drawing.{drawn-within}
+
+-- ---- a size
+pub turned-fits : {z : ℤ} → Within 100_000_000 z → SFits w64 (pos 0 -ℤ z)
+turned-fits w = fits (within-sub (within-lit 0) w) (lit< tt)
+
+pub ruleset turns = (turned-fits)
+
+pub size-below : (z : ℤ) → z <ℤ pos 0 → pos 0 -ℤ z ≡ pos (natAbs z)
+size-below z h = omega (zarith, abs-is z, sub-is (pos 0) z, apart z)
+
+pub size-above : (z : ℤ) → pos 0 ≤ℤ z → z ≡ pos (natAbs z)
+size-above z h = omega (zarith, abs-is z, apart z)
+
+-- ---- the normal price, from the size of the spot
+module _ (c : Contract) (size : ℤ) (e : size ≡ pos (natAbs (c .spot .0))) where
+  pub normal-least : ltZ size (c .least .0) ≡ true → c .least .0 ≡ normal-price c
+  unfolding normal-price
+  normal-least t = rw (rw e at t)
+
+  pub normal-size : ltZ size (c .least .0) ≡ false → size ≡ normal-price c
+  unfolding normal-price
+  normal-size t = rw (rw e at t) e
+
+-- ---- a half-width, from the normal price n
+module _ (c : Contract) (r : ContractIn c) (rate : ℕ) (s : Between 1 1_000_000 rate) (n : ℤ) (e : n ≡ normal-price c) where
+  abbrev read-back : ℤ
+  read-back = toZ w64 (ofZ w64 n) *ℤ toZ w64 rate
+
+  normal-fits : SFits w64 (normal-price c)
+  normal-fits = fits (span-within (normal-in c r)) (lit< tt)
+
+  product-is : read-back ≡ normal-price c *ℤ pos rate
+  product-is = rw (e, toZ-ofZ normal-fits, cast-back {n = rate} (omega (arith, s .most)))
+
+  pub width-fits : SFits w64 read-back
+  width-fits = rw product-is (fits (within-mul (span-within (normal-in c r)) (within-pos (s .most))) (lit< tt))
+
+  pub width-is : ceiling (toZ w64 (ofZ w64 read-back)) 1_000_000 ≡ ceiling (normal-price c *ℤ pos rate) 1_000_000
+  width-is = rw (toZ-ofZ width-fits, product-is)
+
+-- ---- a half-move
+pub half-move-fits : {share : ℕ} {half : ℤ} → Between 1 1_000_000 share → Span (pos 1) (pos 100_000_000) half → SFits w64 (pos share *ℤ half)
+half-move-fits s r = fits (within-mul (within-pos (s .most)) (span-within r)) (lit< tt)
+
+pub share-fits : {share : ℕ} → Between 1 1_000_000 share → share < 2 ^ 63
+share-fits s = omega (arith, s .most)
+
+pub ruleset moves = (half-move-fits, share-fits, cast-back)
+
+-- ---- a corridor, from the bounds u and l
+module _ (width : Millionths) (t : Terms) (m : Market) (s : Spanned width t m) (u l : ℤ) (eu : u ≡ bound Up t m) (el : l ≡ bound Down t m) where
+  upper-within : Within 2_970_000_000 u
+  upper-within = rw eu (drawn-within (s .drawn) Up)
+
+  lower-within : Within 2_970_000_000 l
+  lower-within = rw el (drawn-within (s .drawn) Down)
+
+  abbrev apart-back : ℤ
+  apart-back = toZ w64 (ofZ w64 u) -ℤ toZ w64 (ofZ w64 l)
+
+  apart-is : apart-back ≡ u -ℤ l
+  apart-is = rw (toZ-ofZ (fits upper-within (lit< tt)), toZ-ofZ (fits lower-within (lit< tt)))
+
+  pub apart-fits : SFits w64 apart-back
+  apart-fits = rw apart-is (fits (within-sub upper-within lower-within) (lit< tt))
+
+  abbrev share-back : ℤ
+  share-back = toZ w64 (width .0) *ℤ toZ w64 (ofZ w64 apart-back)
+
+  share-is : share-back ≡ pos (width .0) *ℤ (u -ℤ l)
+  share-is = rw (toZ-ofZ apart-fits, apart-is, cast-back {n = width .0} (omega (arith, s .share)))
+
+  pub share-times-fits : SFits w64 share-back
+  share-times-fits = rw share-is (fits (within-mul (within-pos (s .share)) (within-sub upper-within lower-within)) (lit< tt))
+
+  pub half-is : floor (toZ w64 (ofZ w64 share-back)) 2_000_000 ≡ corridor-half width t m
+  unfolding corridor-half
+  half-is = rw (toZ-ofZ share-times-fits, share-is, eu, el)
+
+half-within : (width : Millionths) (t : Terms) (m : Market) → Spanned width t m → Within 2_970_000_000 (corridor-half width t m)
+unfolding corridor-half
+half-within width t m s =
+    floor-within 2_970_000_000 2_000_000 (lit< tt)
+    (within-more (within-mul (within-pos (s .share)) (within-sub (drawn-within (s .drawn) Up) (drawn-within (s .drawn) Down))) (lit≤ tt))
+
+module _ (width : Millionths) (t : Terms) (m : Market) (s : Spanned width t m) (half : ℤ) (e : half ≡ corridor-half width t m) where
+  half-in : Within 2_970_000_000 half
+  half-in = rw e (half-within width t m s)
+
+  pub high-fits : SFits w64 (m .centre .0 +ℤ half)
+  high-fits = fits (within-add (s .drawn .centre) half-in) (lit< tt)
+
+  pub low-fits : SFits w64 (m .centre .0 -ℤ half)
+  low-fits = fits (within-sub (s .drawn .centre) half-in) (lit< tt)
+
+  pub centre-fits : SFits w64 (m .centre .0)
+  centre-fits = fits (s .drawn .centre) (lit< tt)
+
+  pub half-fits : SFits w64 half
+  half-fits = fits half-in (lit< tt)
+
+pub both-limits : {u x l y : ℤ} → u ≡ x → l ≡ y
+    → _≡_ {A = Limits} (record { upper = steps u; lower = steps l; frozen = false }) (record { upper = steps x; lower = steps y; frozen = false })
+both-limits e f = λ i. record { upper = steps (e i); lower = steps (f i); frozen = false }

@@ -1,0 +1,27 @@
+-- `line::opening::half_move` meets its contract. Assumes nothing.
+use borrow.Author.Needs.{needs}
+use mathlib.Core.Path.{_∙_, ap}
+use Rattle.method.specs.Opening.{half-move}
+use Rattle.line.specs.Names.{steps}
+use Rattle.line.proofs.Opened.{moves}
+use Rattle.line.proofs.opening.half_move.Statement.{statement}
+use Rattle.line.proofs.opening.half_move.Tie as tie
+
+cast-share : tie.Need-cast-share
+cast-share c = search needs
+
+cast-share-2 : tie.Need-cast-share-2
+cast-share-2 c = search needs
+
+mul-floor : tie.Need-mul-floor
+mul-floor c = search (needs, moves)
+
+floor-requires : tie.Need-floor-requires
+floor-requires c κs = search needs
+
+returns : tie.Need-returns
+unfolding half-move
+returns c = ap steps ((search needs) ∙ (c .floor .ensures ∙ (search (needs, moves))))
+
+pub half-move-spec : {M : Type 1} → statement M
+half-move-spec = tie.close (tie.spec cast-share cast-share-2 mul-floor floor-requires returns)

@@ -1,0 +1,233 @@
+// The opening numbers of one contract, from its ten fields.
+
+ghost use mathlib.Core.Path.{_≡_};
+ghost use Prim.Native.Nat.{_≤_};
+ghost use lib.IntN.{pos, natAbs};
+ghost use Rattle.numbers.specs.Ranges.{Within, Between, Span};
+ghost use Rattle.method.specs.Growth.{most-exponent};
+ghost use mathlib.Core.Bool.{_||_};
+ghost use lib.Signed.{leZ};
+ghost use Rattle.method.specs.Opening.{permits-negative, rates-good, fields-good, normal-price, half-width, market-of, half-move, terms-of, corridor-half, corridor, inside-bounds, fresh-line, opened-with};
+ghost use Rattle.method.specs.Ranges.{ContractIn};
+ghost use Rattle.line.specs.Asks.{Drawn, Spanned};
+use crate::bounds;
+use crate::limits;
+use method::Book;
+use method::Contract;
+use method::Hold;
+use method::Holds;
+use method::Limits;
+use method::Line;
+use method::LineAnswer;
+use method::Market;
+use method::Price;
+use method::Side;
+use method::TableReason;
+use method::Terms;
+use numbers::Billionths;
+use numbers::Millionths;
+use numbers::Steps;
+
+// Rates in their range, and not falling.
+fn rates_good(c: Contract) -> bool
+    ensures { λ r. ⌜ r ≡ rates-good c ⌝ }
+{
+    if !numbers::in_range(1, 1000000, c.rate1.0) {
+        return false;
+    }
+    if !numbers::in_range(1, 1000000, c.rate2.0) {
+        return false;
+    }
+    if c.rate2.0 < c.rate1.0 {
+        return false;
+    }
+    if !numbers::in_range(1, 1000000, c.rate3.0) {
+        return false;
+    }
+    c.rate2.0 <= c.rate3.0
+}
+
+// Every field in its range (refusal 5).
+pub fn fields_good(c: Contract) -> bool
+    ensures { λ r. ⌜ r ≡ fields-good c ⌝ }
+{
+    let price = c.price;
+    let spot = c.spot;
+    let least = c.least;
+    if !numbers::between(Steps(-100000000), Steps(100000000), price) {
+        return false;
+    }
+    if !positive(c.flags, price) {
+        return false;
+    }
+    if !numbers::between(Steps(-100000000), Steps(100000000), spot) {
+        return false;
+    }
+    if !numbers::between(Steps(1), Steps(100000000), least) {
+        return false;
+    }
+    if !rates_good(c) {
+        return false;
+    }
+    if 1000000 < c.width.0 {
+        return false;
+    }
+    if 3650 < c.days {
+        return false;
+    }
+    wire::reserved_zero(c.flags)
+}
+
+// At least 1, where negative prices are not permitted.
+fn positive(flags: u32, price: Steps) -> bool
+    ensures { λ r. ⌜ r ≡ (permits-negative flags || leZ (pos 1) (price .0)) ⌝ }
+{
+    if wire::bit_0(flags) {
+        return true;
+    }
+    1 <= price.0
+}
+
+fn magnitude(z: Steps) -> Steps
+    requires { ⌜ Within 100_000_000 (z .0) ⌝ }
+    ensures { λ r. ⌜ r .0 ≡ pos (natAbs (z .0)) ⌝ }
+{
+    if z.0 < 0 {
+        return Steps(0 - z.0);
+    }
+    z
+}
+
+// The larger of |spot| and least price.
+fn normal_price(c: Contract) -> Steps
+    requires { ⌜ ContractIn c ⌝ }
+    ensures { λ r. ⌜ r .0 ≡ normal-price c ⌝ }
+{
+    let spot = c.spot;
+    let least = c.least;
+    let size = magnitude(spot);
+    if size.0 < least.0 {
+        return least;
+    }
+    size
+}
+
+fn half_width(c: Contract, rate: Millionths) -> Steps
+    requires { ⌜ ContractIn c × Between 1 1_000_000 (rate .0) ⌝ }
+    ensures { λ r. ⌜ r ≡ half-width c rate ⌝ }
+{
+    let normal = normal_price(c);
+    let factor = (rate.0 as u64) as i64;
+    Steps(numbers::ceiling(normal.0 * factor, 1000000))
+}
+
+pub fn market(c: Contract) -> Market
+    requires { ⌜ ContractIn c ⌝ }
+    ensures { λ r. ⌜ r ≡ market-of c ⌝ }
+{
+    let centre = c.price;
+    let rate1 = c.rate1;
+    let rate2 = c.rate2;
+    let rate3 = c.rate3;
+    Market {
+        centre: centre,
+        half1: half_width(c, rate1),
+        half2: half_width(c, rate2),
+        half3: half_width(c, rate3),
+    }
+}
+
+fn half_move(shift: Millionths, half1: Steps) -> Steps
+    requires { ⌜ Between 1 1_000_000 (shift .0) × Span (pos 1) (pos 100_000_000) (half1 .0) ⌝ }
+    ensures { λ r. ⌜ r ≡ half-move shift half1 ⌝ }
+{
+    let share = (shift.0 as u64) as i64;
+    Steps(numbers::floor(share * half1.0, 2000000))
+}
+
+// What stays for the session. The flags are rebuilt from their two bits.
+pub fn terms(shift: Millionths, y: Billionths, c: Contract) -> Terms
+    requires { ⌜ ContractIn c × (Between 1 1_000_000 (shift .0) × (y .0 ≤ most-exponent)) ⌝ }
+    ensures { λ r. ⌜ r ≡ terms-of shift (y .0) c ⌝ }
+{
+    let rate1 = c.rate1;
+    Terms {
+        id: c.id,
+        flags: wire::rebuilt(c.flags),
+        below: c.price.0 < 0,
+        halfmove: half_move(shift, half_width(c, rate1)),
+        factors: growth::factors(y),
+    }
+}
+
+fn corridor_half(width: Millionths, t: Terms, m: Market) -> Steps
+    requires { ⌜ Spanned width t m ⌝ }
+    ensures { λ r. ⌜ r .0 ≡ corridor-half width t m ⌝ }
+{
+    let upper = bounds::bound(Side::Up, t, m);
+    let lower = bounds::bound(Side::Down, t, m);
+    let share = (width.0 as u64) as i64;
+    Steps(numbers::floor(share * (upper.0 - lower.0), 2000000))
+}
+
+// The limits P + half and P - half, before they are held against their bounds.
+fn corridor(width: Millionths, t: Terms, m: Market) -> Limits
+    requires { ⌜ Spanned width t m ⌝ }
+    ensures { λ r. ⌜ r ≡ corridor width t m ⌝ }
+{
+    let half = corridor_half(width, t, m);
+    let centre = m.centre;
+    Limits {
+        upper: Steps(centre.0 + half.0),
+        lower: Steps(centre.0 - half.0),
+        frozen: false,
+    }
+}
+
+// Neither limit beyond its interest bound (refusal 9).
+fn inside_bounds(t: Terms, m: Market, k: Limits) -> bool
+    requires { ⌜ Drawn t m ⌝ }
+    ensures { λ r. ⌜ r ≡ inside-bounds t m k ⌝ }
+{
+    let upper = bounds::bound(Side::Up, t, m);
+    let lower = bounds::bound(Side::Down, t, m);
+    if k.upper.0 <= upper.0 {
+        return lower.0 <= k.lower.0;
+    }
+    false
+}
+
+// A line with an empty book and no hold, its lower limit floored.
+fn fresh_line(t: Terms, m: Market, k: Limits) -> Line
+    ensures { λ r. ⌜ r ≡ fresh-line t m k ⌝ }
+{
+    let limits = limits::floored(wire::bit_0(t.flags), k);
+    Line {
+        terms: t,
+        market: m,
+        limits: limits,
+        book: Book {
+            bid: Price::Absent,
+            ask: Price::Absent,
+        },
+        holds: Holds {
+            up: Hold::Idle,
+            down: Hold::Idle,
+        },
+    }
+}
+
+// The last two refusals of a contract, 8 and 9, or its line.
+pub fn opened_with(width: Millionths, t: Terms, m: Market) -> LineAnswer
+    requires { ⌜ Spanned width t m ⌝ }
+    ensures { λ r. ⌜ r ≡ opened-with width t m ⌝ }
+{
+    if t.halfmove.0 < 1 {
+        return LineAnswer::Refused(TableReason::HalfMove);
+    }
+    let k = corridor(width, t, m);
+    if !inside_bounds(t, m, k) {
+        return LineAnswer::Refused(TableReason::Corridor);
+    }
+    LineAnswer::Opened(fresh_line(t, m, k))
+}
