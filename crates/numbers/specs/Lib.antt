@@ -1,3 +1,4 @@
 pub mod Rounding
 pub mod Ranges
 pub mod Tests
+pub mod Arrays

@@ -1,0 +1,114 @@
+-- The loops over a table's keys and lines: what holds at their head. Assumes nothing.
+use mathlib.Core.Path.{_≡_, refl, sym, ap, _∙_, subst}
+use mathlib.Core.Bool.{Bool, true, false, cond, not, _&&_, _||_}
+use mathlib.Core.List.{List, [], _∷_, _++_}
+use mathlib.Core.Option.{Option, none, some}
+use Prim.Native.Nat.{ℕ, zero, suc, _+_, _*_, _≤_, _<_}
+use native.Mathlib.Numerals.{add-one}
+use native.Mathlib.Omega.{arith}
+use borrow.Author.Tests.{lt-ltb, eq-eqb, ne-eqb}
+use lib.Dec.{ltb, eqb}
+use lib.IntN.{ℤ}
+use lib.ListN.{length, getD, set, take, drop}
+use Rattle.numbers.specs.Arrays.{padded}
+use Rattle.numbers.proofs.Arrays.{padded-set, passing, all-passed}
+use Rattle.method.specs.Opening.{known, id-good}
+use Rattle.method.specs.Table.{key-at, keys-at, contract-at, contracts-at, key-good, bad-key}
+use Rattle.table.specs.Names.{Key, Contract, Line, no-key, blank}
+use Rattle.table.specs.Opened.{line-or-zero}
+
+-- ---- the keys are read one after another
+pub keys-length : (b : List ℕ) (at n : ℕ) → length (keys-at b at n) ≡ n
+unfolding keys-at
+keys-length b at zero = refl
+keys-length b at (suc n) = ap suc (keys-length b (at + 8) n)
+
+keys-last : (b : List ℕ) (at n : ℕ) → keys-at b at n ++ (key-at b (at + 8 * n) ∷ []) ≡ keys-at b at (suc n)
+unfolding keys-at
+keys-last b at zero = ap (λ (k : ℕ). key-at b k ∷ []) (omega arith)
+keys-last b at (suc n) =
+    ap (λ (ks : List Key). key-at b at ∷ ks)
+    (ap (λ (k : ℕ). keys-at b (at + 8) n ++ (key-at b k ∷ [])) (omega arith) ∙ keys-last b (at + 8) n)
+
+pub keys-read : (b : List ℕ) (i : ℕ) (keys : List Key) (k : Key) → keys ≡ padded 16 no-key (keys-at b 40 i) → i < 16 → k ≡ key-at b (40 + 8 * i)
+    → set keys i k ≡ padded 16 no-key (keys-at b 40 (i + 1))
+keys-read b i keys k e h q =
+    let size : length (keys-at b 40 i) ≡ i = keys-length b 40 i in
+    rw (e, q, add-one)
+    (ap (λ (j : ℕ). set (padded 16 no-key (keys-at b 40 i)) j (key-at b (40 + 8 * i))) (sym size)
+    ∙ padded-set 16 no-key (keys-at b 40 i) (key-at b (40 + 8 * i)) (omega arith)
+    ∙ ap (padded 16 no-key) (keys-last b 40 i))
+
+-- ---- the keys are tested one after another
+abbrev pub Tested : ℕ → List Key → ℕ → ℕ → ℕ → Type 0
+Tested n keys last line i = bad-key line last (drop i (take n keys)) ≡ bad-key 1 0 (take n keys)
+
+module _ (n : ℕ) (keys : List Key) (last line i : ℕ) (t : Tested n keys last line i) (h : n ≤ length keys) where
+  pub tested-bad : i < n → key-good last (getD keys i no-key) ≡ false → line ≡ line-or-zero (bad-key 1 0 (take n keys))
+  tested-bad g e = ap line-or-zero (sym found ∙ t)
+    where
+      found : bad-key line last (drop i (take n keys)) ≡ some line
+      found = unfold bad-key in rw (passing i n keys no-key g h, e)
+
+  pub tested-turn : i < n → key-good last (getD keys i no-key) ≡ true → Tested n keys (getD keys i no-key .days) (line + 1) (i + 1)
+  tested-turn g e = rw (add-one line, add-one i) (sym passed ∙ t)
+    where
+      passed : bad-key line last (drop i (take n keys)) ≡ bad-key (suc line) (getD keys i no-key .days) (drop (suc i) (take n keys))
+      passed = unfold bad-key in rw (passing i n keys no-key g h, e)
+
+  pub tested-all : i ≡ n → 0 ≡ line-or-zero (bad-key 1 0 (take n keys))
+  tested-all e = ap line-or-zero (sym ended ∙ t)
+    where
+      ended : bad-key line last (drop i (take n keys)) ≡ none
+      ended = unfold bad-key in rw (e, all-passed n keys h)
+
+-- ---- the lines are passed one after another
+abbrev pub Unmet : ℕ → List Line → ℕ → ℕ → Type 0
+Unmet n lines id i = known id (drop i (take n lines)) ≡ known id (take n lines)
+
+module _ (n : ℕ) (lines : List Line) (id i : ℕ) (u : Unmet n lines id i) (h : n ≤ length lines) where
+  pub unmet-turn : i < n → (getD lines i blank .terms .id ≡ id → ⊥) → Unmet n lines id (i + 1)
+  unmet-turn g e = rw add-one (sym passed ∙ u)
+    where
+      passed : known id (drop i (take n lines)) ≡ known id (drop (suc i) (take n lines))
+      passed = unfold known in rw (passing i n lines blank g h, ne-eqb (getD lines i blank .terms .id) id e)
+
+  pub unmet-met : i < n → getD lines i blank .terms .id ≡ id → false ≡ id-good (take n lines) id
+  unfolding id-good
+  unmet-met g e = rw (sym u ∙ met) (never (ltb 0 id))
+    where
+      met : known id (drop i (take n lines)) ≡ true
+      met = unfold known in rw (passing i n lines blank g h, eq-eqb (getD lines i blank .terms .id) id e)
+
+      never : (t : Bool) → false ≡ (t && false)
+      never true = refl
+      never false = refl
+
+  pub unmet-all : i ≡ n → 0 < id → true ≡ id-good (take n lines) id
+  unfolding id-good
+  unmet-all e g = rw (sym u ∙ ended, lt-ltb 0 id g)
+    where
+      ended : known id (drop i (take n lines)) ≡ false
+      ended = unfold known in rw (e, all-passed n lines h)
+
+-- ---- a contract, field by field
+abbrev fields : ℤ → ℤ → ℤ → ℕ → ℕ → ℕ → ℕ → ℕ → ℕ → ℕ → Contract
+fields price spot least rate1 rate2 rate3 width days id flags =
+    record {
+      price = record { 0 = price };
+      spot = record { 0 = spot };
+      least = record { 0 = least };
+      rate1 = record { 0 = rate1 };
+      rate2 = record { 0 = rate2 };
+      rate3 = record { 0 = rate3 };
+      width = record { 0 = width };
+      days = days;
+      id = id;
+      flags = flags;
+    }
+
+module _ {price price′ spot spot′ least least′ : ℤ} {rate1 rate1′ rate2 rate2′ rate3 rate3′ width width′ days days′ id id′ flags flags′ : ℕ} where
+  pub contract-is : price ≡ price′ → spot ≡ spot′ → least ≡ least′ → rate1 ≡ rate1′ → rate2 ≡ rate2′ → rate3 ≡ rate3′ → width ≡ width′ → days ≡ days′
+      → id ≡ id′ → flags ≡ flags′
+      → _≡_ {A = Contract} (fields price spot least rate1 rate2 rate3 width days id flags) (fields price′ spot′ least′ rate1′ rate2′ rate3′ width′ days′ id′ flags′)
+  contract-is a b c d e f g h i j = λ k. fields (a k) (b k) (c k) (d k) (e k) (f k) (g k) (h k) (i k) (j k)

@@ -1,0 +1,245 @@
+// The morning table: bytes to opened lines, or a refusal with its line.
+
+ghost use mathlib.Core.Path.{_≡_};
+ghost use Prim.Native.Nat.{_+_, _*_, _≤_};
+ghost use lib.ListN.{length, take};
+ghost use Rattle.numbers.specs.Arrays.{padded};
+ghost use Rattle.method.specs.Opening.{id-good, open-line};
+ghost use Rattle.method.specs.Table.{header-of, key-at, contract-at, keys-at, bad-key, header-good, laid-out, key-good};
+ghost use Rattle.table.specs.Names.{no-key};
+ghost use Rattle.table.specs.Opened.{line-or-zero};
+ghost use Rattle.table.specs.Asks.{Ready};
+use method::Book;
+use method::Contract;
+use method::Factors;
+use method::Header;
+use method::Hold;
+use method::Holds;
+use method::Key;
+use method::Limits;
+use method::Line;
+use method::LineAnswer;
+use method::Market;
+use method::Price;
+use method::TableAnswer;
+use method::TableReason;
+use method::Terms;
+use numbers::Billionths;
+use numbers::Millionths;
+use numbers::Seconds;
+use numbers::Steps;
+
+// What stands past the last key and the last line.
+const NO_KEY: Key = Key {
+    days: 0,
+    rate: Millionths(0),
+};
+
+const BLANK: Line = Line {
+    terms: Terms {
+        id: 0,
+        flags: 0,
+        below: false,
+        halfmove: Steps(0),
+        factors: Factors {
+            up: Billionths(0),
+            down: Billionths(0),
+        },
+    },
+    market: Market {
+        centre: Steps(0),
+        half1: Steps(0),
+        half2: Steps(0),
+        half3: Steps(0),
+    },
+    limits: Limits {
+        upper: Steps(0),
+        lower: Steps(0),
+        frozen: false,
+    },
+    book: Book {
+        bid: Price::Absent,
+        ask: Price::Absent,
+    },
+    holds: Holds {
+        up: Hold::Idle,
+        down: Hold::Idle,
+    },
+};
+
+// ---- the three kinds of record
+
+fn header(bytes: &[u8]) -> Header
+    requires { ⌜ 40 ≤ length (now bytes) ⌝ }
+    ensures { λ r. ⌜ r ≡ header-of (now (bytes .entry)) ⌝ }
+{
+    Header {
+        edition: wire::word(bytes, 0),
+        contracts: wire::word(bytes, 4),
+        contractsat: wire::word(bytes, 8),
+        keys: wire::word(bytes, 12),
+        keysat: wire::word(bytes, 16),
+        end: Seconds(wire::word(bytes, 20)),
+        hold: Seconds(wire::word(bytes, 24)),
+        most: wire::word(bytes, 28),
+        near: Millionths(wire::word(bytes, 32)),
+        shift: Millionths(wire::word(bytes, 36)),
+    }
+}
+
+fn key(bytes: &[u8], at: usize) -> Key
+    requires { ⌜ at + 8 ≤ length (now bytes) ⌝ }
+    ensures { λ r. ⌜ r ≡ key-at (now (bytes .entry)) at ⌝ }
+{
+    Key {
+        days: wire::word(bytes, at),
+        rate: Millionths(wire::word(bytes, at + 4)),
+    }
+}
+
+fn contract(bytes: &[u8], at: usize) -> Contract
+    requires { ⌜ at + 40 ≤ length (now bytes) ⌝ }
+    ensures { λ r. ⌜ r ≡ contract-at (now (bytes .entry)) at ⌝ }
+{
+    Contract {
+        price: Steps(wire::signed_word(bytes, at)),
+        spot: Steps(wire::signed_word(bytes, at + 4)),
+        least: Steps((wire::word(bytes, at + 8) as u64) as i64),
+        rate1: Millionths(wire::word(bytes, at + 12)),
+        rate2: Millionths(wire::word(bytes, at + 16)),
+        rate3: Millionths(wire::word(bytes, at + 20)),
+        width: Millionths(wire::word(bytes, at + 24)),
+        days: wire::word(bytes, at + 28),
+        id: wire::word(bytes, at + 32),
+        flags: wire::word(bytes, at + 36),
+    }
+}
+
+// ---- their tests
+
+// A count, a time or a share out of range (refusal 3).
+fn header_good(h: Header) -> bool
+    ensures { λ r. ⌜ r ≡ header-good h ⌝ }
+{
+    if !numbers::in_range(1, 32, h.contracts) {
+        return false;
+    }
+    if !numbers::in_range(1, 16, h.keys) {
+        return false;
+    }
+    if !numbers::in_range(1, 172800, h.end.0) {
+        return false;
+    }
+    if !numbers::in_range(1, 3600, h.hold.0) {
+        return false;
+    }
+    if 16 < h.most {
+        return false;
+    }
+    if !numbers::in_range(1, 500000, h.near.0) {
+        return false;
+    }
+    numbers::in_range(1, 1000000, h.shift.0)
+}
+
+// Offsets and length as the counts say (the rest of refusal 1). The sums are of 64 bits, and fit whatever the counts are.
+fn laid_out(h: Header, size: usize) -> bool
+    ensures { λ r. ⌜ r ≡ laid-out h size ⌝ }
+{
+    let start = 40 + 8 * (h.keys as usize);
+    if h.keysat != 40 {
+        return false;
+    }
+    if (h.contractsat as usize) != start {
+        return false;
+    }
+    size == start + 40 * (h.contracts as usize)
+}
+
+// A key in its range, and after the one before it (refusal 4).
+fn key_good(before: u32, k: Key) -> bool
+    ensures { λ r. ⌜ r ≡ key-good before k ⌝ }
+{
+    if !numbers::in_range(1, 3650, k.days) {
+        return false;
+    }
+    if k.days <= before {
+        return false;
+    }
+    k.rate.0 <= 1000000
+}
+
+// ---- the keys
+
+fn keys(bytes: &[u8], n: usize) -> [Key; 16]
+    requires { ⌜ (n ≤ 16) × (40 + 8 * n ≤ length (now bytes)) ⌝ }
+    ensures { λ r. ⌜ r ≡ padded 16 no-key (keys-at (now (bytes .entry)) 40 n) ⌝ }
+{
+    let mut keys = [NO_KEY; 16];
+    let mut i: usize = 0;
+    while i < n {
+        keys[i] = key(bytes, 40 + 8 * i);
+        i = i + 1;
+    }
+    keys
+}
+
+// The line of the first bad key, from 1, or 0 where there is none.
+fn first_bad_key(keys: [Key; 16], n: usize) -> u32
+    requires { ⌜ n ≤ 16 ⌝ }
+    ensures { λ r. ⌜ r ≡ line-or-zero (bad-key 1 0 (take n keys)) ⌝ }
+{
+    let mut last: u32 = 0;
+    let mut line: u32 = 1;
+    let mut i: usize = 0;
+    while i < n {
+        let k = keys[i];
+        if !key_good(last, k) {
+            return line;
+        }
+        last = k.days;
+        line = line + 1;
+        i = i + 1;
+    }
+    0
+}
+
+// ---- one contract after the lines before it
+
+// An id that is not 0 and stands on none of the first `count` lines (refusal 6).
+fn id_good(lines: [Line; 32], count: usize, id: u32) -> bool
+    requires { ⌜ count ≤ 32 ⌝ }
+    ensures { λ r. ⌜ r ≡ id-good (take count lines) id ⌝ }
+{
+    if id == 0 {
+        return false;
+    }
+    let mut i: usize = 0;
+    while i < count {
+        let l = lines[i];
+        let t = l.terms;
+        if t.id == id {
+            return false;
+        }
+        i = i + 1;
+    }
+    true
+}
+
+fn open_line(shift: Millionths, keys: [Key; 16], n: usize, lines: [Line; 32], count: usize, c: Contract) -> LineAnswer
+    requires { ⌜ Ready shift keys n × (count ≤ 32) ⌝ }
+    ensures { λ r. ⌜ r ≡ open-line shift (take n keys) (take count lines) c ⌝ }
+{
+    if !line::opening::fields_good(c) {
+        return LineAnswer::Refused(TableReason::Field);
+    }
+    if !id_good(lines, count, c.id) {
+        return LineAnswer::Refused(TableReason::Id);
+    }
+    let y = growth::exponent(growth::rate_at(keys, n, c.days), c.days);
+    if 500000000 < y.0 {
+        return LineAnswer::Refused(TableReason::Exponent);
+    }
+    let width = c.width;
+    line::opening::opened_with(width, line::opening::terms(shift, y, c), line::opening::market(c))
+}
