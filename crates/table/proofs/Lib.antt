@@ -1,2 +1,4 @@
 pub mod Records
 pub mod Opening
+pub mod Lines
+pub mod Whole

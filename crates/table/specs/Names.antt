@@ -26,15 +26,15 @@ abbrev pub blank : Line
 blank =
     record {
       terms =
-        record {
-          id = 0;
-          flags = 0;
-          below = false;
-          halfmove = record { 0 = pos 0 };
-          factors = record { up = record { 0 = 0 }; down = record { 0 = 0 } };
-        };
+          record {
+            id = 0;
+            flags = 0;
+            below = false;
+            halfmove = record { 0 = pos 0 };
+            factors = record { up = record { 0 = 0 }; down = record { 0 = 0 } };
+          };
       market =
-        record { centre = record { 0 = pos 0 }; half1 = record { 0 = pos 0 }; half2 = record { 0 = pos 0 }; half3 = record { 0 = pos 0 } };
+          record { centre = record { 0 = pos 0 }; half1 = record { 0 = pos 0 }; half2 = record { 0 = pos 0 }; half3 = record { 0 = pos 0 } };
       limits = record { upper = record { 0 = pos 0 }; lower = record { 0 = pos 0 }; frozen = false };
       book = record { bid = Absent; ask = Absent };
       holds = record { up = Idle; down = Idle };

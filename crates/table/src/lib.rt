@@ -1,14 +1,15 @@
 // The morning table: bytes to opened lines, or a refusal with its line.
 
 ghost use mathlib.Core.Path.{_≡_};
+ghost use mathlib.Core.List.{[]};
 ghost use Prim.Native.Nat.{_+_, _*_, _≤_};
 ghost use lib.ListN.{length, take};
 ghost use Rattle.numbers.specs.Arrays.{padded};
 ghost use Rattle.method.specs.Opening.{id-good, open-line};
-ghost use Rattle.method.specs.Table.{header-of, key-at, contract-at, keys-at, bad-key, header-good, laid-out, key-good};
+ghost use Rattle.method.specs.Table.{header-of, key-at, contract-at, keys-at, bad-key, header-good, laid-out, key-good, contracts-start, contracts-at, open-lines, refused, opening};
 ghost use Rattle.table.specs.Names.{no-key};
-ghost use Rattle.table.specs.Opened.{line-or-zero};
-ghost use Rattle.table.specs.Asks.{Ready};
+ghost use Rattle.table.specs.Opened.{line-or-zero, opened-as};
+ghost use Rattle.table.specs.Asks.{Ready, Lined};
 use method::Book;
 use method::Contract;
 use method::Factors;
@@ -226,7 +227,14 @@ fn id_good(lines: [Line; 32], count: usize, id: u32) -> bool
     true
 }
 
-fn open_line(shift: Millionths, keys: [Key; 16], n: usize, lines: [Line; 32], count: usize, c: Contract) -> LineAnswer
+fn open_line(
+    shift: Millionths,
+    keys: [Key; 16],
+    n: usize,
+    lines: [Line; 32],
+    count: usize,
+    c: Contract,
+) -> LineAnswer
     requires { ⌜ Ready shift keys n × (count ≤ 32) ⌝ }
     ensures { λ r. ⌜ r ≡ open-line shift (take n keys) (take count lines) c ⌝ }
 {
@@ -241,5 +249,100 @@ fn open_line(shift: Millionths, keys: [Key; 16], n: usize, lines: [Line; 32], co
         return LineAnswer::Refused(TableReason::Exponent);
     }
     let width = c.width;
-    line::opening::opened_with(width, line::opening::terms(shift, y, c), line::opening::market(c))
+    line::opening::opened_with(
+        width,
+        line::opening::terms(shift, y, c),
+        line::opening::market(c),
+    )
+}
+
+// ---- the whole table
+
+// The answer, and beside it, where a session is opened, its lines and the header's numbers; where it is refused, blank ones.
+pub struct Opened {
+    pub answer: TableAnswer,
+    pub lines: [Line; 32],
+    pub count: usize,
+    pub end: Seconds,
+    pub hold: Seconds,
+    pub most: u32,
+    pub near: Millionths,
+}
+
+fn refused(why: TableReason, line: u32) -> Opened
+    ensures { λ r. ⌜ r ≡ opened-as (refused why line) ⌝ }
+{
+    Opened {
+        answer: TableAnswer::Refused(why, line),
+        lines: [BLANK; 32],
+        count: 0,
+        end: Seconds(0),
+        hold: Seconds(0),
+        most: 0,
+        near: Millionths(0),
+    }
+}
+
+// Each contract line in turn.
+fn open_lines(bytes: &[u8], h: Header, keys: [Key; 16]) -> Opened
+    requires { ⌜ Lined h keys (length (now bytes)) ⌝ }
+    ensures { λ r. ⌜ r ≡ opened-as (open-lines h (take (h .keys) keys) 1 [] (contracts-at (now (bytes .entry)) (contracts-start h) (h .contracts))) ⌝ }
+{
+    let n = h.keys as usize;
+    let start = 40 + 8 * n;
+    let count = h.contracts as usize;
+    let shift = h.shift;
+    let mut lines = [BLANK; 32];
+    let mut i: usize = 0;
+    while i < count {
+        let c = contract(bytes, start + 40 * i);
+        match open_line(shift, keys, n, lines, i, c) {
+            LineAnswer::Refused(why) => {
+                return refused(why, (i + 1) as u32);
+            }
+            LineAnswer::Opened(l) => {
+                lines[i] = l;
+                i = i + 1;
+            }
+        }
+    }
+    let end = h.end;
+    let hold = h.hold;
+    let near = h.near;
+    Opened {
+        answer: TableAnswer::Opened,
+        lines: lines,
+        count: count,
+        end: end,
+        hold: hold,
+        most: h.most,
+        near: near,
+    }
+}
+
+// Opens a morning table. Any bytes of any length get an answer, and nothing is worked out from a count before it is checked.
+pub fn open(bytes: &[u8]) -> Opened
+    ensures { λ r. ⌜ r ≡ opened-as (opening (now (bytes .entry))) ⌝ }
+{
+    let size = bytes.len();
+    if size < 40 {
+        return refused(TableReason::Length, 0);
+    }
+    let h = header(bytes);
+    if h.edition != 1 {
+        return refused(TableReason::Edition, 0);
+    }
+    if !header_good(h) {
+        return refused(TableReason::Header, 0);
+    }
+    if !laid_out(h, size) {
+        return refused(TableReason::Length, 0);
+    }
+    let n = h.keys as usize;
+    let ks = keys(bytes, n);
+    let bad = first_bad_key(ks, n);
+    if bad != 0 {
+        return refused(TableReason::Key, bad);
+    }
+    open_lines(bytes, h, ks)
 }
