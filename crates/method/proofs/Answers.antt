@@ -32,7 +32,7 @@ use Rattle.method.specs.CalledFor.{Done, time, Right, Answers, reached, 
 use Rattle.method.specs.Search.{serve, answered, answer, run, finally}
 use Rattle.method.specs.Ranges.{Every, Opened}
 use Rattle.method.specs.Sound.{Exact, Sound}
-use Rattle.method.specs.Rule2.{hold-at, Precedes, before, Rising, Timely, Reported}
+use Rattle.method.specs.Rule2Words.{hold-at, Precedes, before, Rising, Timely, Reported}
 use Rattle.method.proofs.Demands.{met-by}
 use Rattle.method.proofs.Every.{every-weaker, every-append}
 use Rattle.method.proofs.Table.{accepted-table}

@@ -11,7 +11,7 @@ use Rattle.method.specs.Types.{Header, Key, Contract, Terms, Market, Lim
 use Rattle.method.specs.Opening.{permits-negative, rates-good, fields-good, known, inside-bounds}
 use Rattle.method.specs.Table.{header-good, laid-out, key-good}
 use Rattle.method.specs.Ranges.{HeaderIn, KeyIn, ContractIn, Every}
-use Rattle.method.specs.Rule1.{Laid, Inside}
+use Rattle.method.specs.Rule1Words.{Laid, Inside}
 
 -- ---- a test that fails denies what it decides; one that decides it holds where that holds
 pub denied : {P : Type 0} (t : Bool) → (P → t ≡ true) → t ≡ false → P → ⊥

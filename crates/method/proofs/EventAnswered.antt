@@ -17,7 +17,7 @@ use Rattle.method.specs.Wire.{word, signed, bit}
 use Rattle.method.specs.Opening.{known}
 use Rattle.method.specs.Event.{price-good, price-of, read-tick, read-quote, read, in-session, not-crossed, verdict}
 use Rattle.method.specs.Ranges.{Every}
-use Rattle.method.specs.Rule1.{
+use Rattle.method.specs.Rule1Words.{
   PriceField,
   IsTick,
   IsQuote,
@@ -25,6 +25,8 @@ use Rattle.method.specs.Rule1.{
   InSession,
   Unknown,
   IsCrossed,
+}
+use Rattle.method.specs.Rules.{
   EventAnswered,
   no-event,
   after-end,
@@ -33,7 +35,6 @@ use Rattle.method.specs.Rule1.{
   crossed,
   tick-taken,
   quote-taken,
-  EveryEvent,
 }
 use Rattle.method.proofs.Decided.{denied, denied-not, refuted-not, by-demand, known-not, not-known}
 
@@ -196,7 +197,7 @@ module _ (s : State) (b : List ℕ) where
   unfolding in-session
   early g h onward = rw (le-leb _ _ g, lt-leb _ _ h)
 
-  answered-verdict : {a : EventAnswer} → EventAnswered s b a → verdict s (read b) ≡ a
+  pub answered-verdict : {a : EventAnswer} → EventAnswered s b a → verdict s (read b) ≡ a
   unfolding verdict
   answered-verdict (no-event n) = rw (read-nothing-is n)
   answered-verdict (after-end v h) = outside v (late h)
@@ -208,5 +209,5 @@ module _ (s : State) (b : List ℕ) where
       rw (read-quote-is r)
       (in-session-is i _ ∙ rw (refuted-not (known (word b 4) (s .lines)) (known-not (word b 4) (s .lines)) k, refuted-not open-quote is-crossed c))
 
-pub every-event : EveryEvent
-every-event s b a = (λ e. subst (EventAnswered s b) e (verdict-answered s b (says b)), answered-verdict s b)
+pub event-answered : (s : State) (b : List ℕ) → EventAnswered s b (verdict s (read b))
+event-answered s b = verdict-answered s b (says b)

@@ -36,7 +36,7 @@ use Rattle.method.specs.Event.{with-book, quoted-line, quoted, applied}
 use Rattle.method.specs.CalledFor.{time}
 use Rattle.method.specs.Ranges.{Every}
 use Rattle.method.specs.Sound.{standing, Exact}
-use Rattle.method.specs.Rule2.{hold-at, presses-at, Life, remaining}
+use Rattle.method.specs.Rule2Words.{hold-at, presses-at, Life, remaining}
 
 -- every line of a state is exact: a hold stands exactly where a watched line presses and shifts are left
 abbrev pub Judged : State → Type 0

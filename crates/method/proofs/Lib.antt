@@ -6,12 +6,12 @@ pub mod Floor
 pub mod Corridor
 pub mod Opening
 pub mod Table
-pub mod Pressure
-pub mod Exact
 pub mod Decided
 pub mod LineAnswered
 pub mod TableAnswered
 pub mod EventAnswered
+pub mod Pressure
+pub mod Exact
 pub mod HoldLife
 pub mod FirstFound
 pub mod Serving
@@ -20,7 +20,6 @@ pub mod Moments
 pub mod EveryLine
 pub mod OtherSide
 pub mod NoneMissed
-pub mod Rule2
 pub mod Each
 pub mod Events
 pub mod Redrawn
@@ -30,4 +29,6 @@ pub mod Sane
 pub mod ShiftedLine
 pub mod Later
 pub mod Reached
+pub mod Rule1
+pub mod Rule2
 pub mod Rule3

@@ -12,7 +12,7 @@ use Rattle.method.specs.Types.{Key, Contract, Millionths, Line, LineAnsw
 use Rattle.method.specs.Growth.{most-exponent}
 use Rattle.method.specs.Opening.{fields-good, known, id-good, exponent-of, terms-of, market-of, inside-bounds, fresh-line, opened-with, open-line}
 use Rattle.method.specs.Ranges.{Every}
-use Rattle.method.specs.Rule1.{Fresh, its-terms, its-corridor, its-line, Good, Fault}
+use Rattle.method.specs.Rule1Words.{Fresh, its-terms, its-corridor, its-line, Good, Fault}
 use Rattle.method.proofs.Every.{every-of-map, every-to-map}
 use Rattle.method.proofs.Opening.{contract-in}
 use Rattle.method.proofs.Decided.{denied, refuted, by-demand, known-not, not-known, fields-test, inside-in, inside-test}

@@ -11,7 +11,7 @@ use Rattle.method.specs.Event.{read, Answer, accepted, refused, next}
 use Rattle.method.specs.CalledFor.{time, Right, Answers, reached}
 use Rattle.method.specs.Ranges.{Every}
 use Rattle.method.specs.Sound.{Sound}
-use Rattle.method.specs.Rule2.{
+use Rattle.method.specs.Rule2Words.{
   hold-at,
   Precedes,
   before,

@@ -10,7 +10,7 @@ use Rattle.method.specs.Types.{Side, Up, Down, other, Seconds, Hold, Sin
 use Rattle.method.specs.Shift.{shifted, onward}
 use Rattle.method.specs.CalledFor.{Stands, due-at, Done, Calls}
 use Rattle.method.specs.Ranges.{Every}
-use Rattle.method.specs.Rule2.{hold-at, remaining, Answered, by-shift, all-made}
+use Rattle.method.specs.Rule2Words.{hold-at, remaining, Answered, by-shift, all-made}
 use Rattle.method.proofs.EveryLine.{onward-keeps}
 use Rattle.method.proofs.HoldLife.{Judged, onward-life, held-pressed}
 use Rattle.method.proofs.FirstFound.{not-later}

@@ -35,7 +35,7 @@ use Rattle.method.specs.Pressure.{close, price, presses, judge}
 use Rattle.method.specs.Shift.{moved, redrawn, moved-line, shift-line, shifted, onward}
 use Rattle.method.specs.Event.{quoted-line}
 use Rattle.method.specs.Ranges.{Every, Opened}
-use Rattle.method.specs.Rule2.{presses-at}
+use Rattle.method.specs.Rule2Words.{presses-at}
 use Rattle.method.proofs.Bounds.{upper-rises, lower-falls}
 use Rattle.method.proofs.Floor.{Floored, free, met, floor-of, floored-upper}
 

@@ -1,7 +1,8 @@
--- Rule 3: one theorem for each statement of specs/Rule3. Assumes nothing.
+-- Rule 3: a theorem for each statement of specs/Rules. Assumes nothing.
 use mathlib.Core.Path.{_≡_, refl, sym, ap, _∙_}
 use mathlib.Core.Bool.{true, false, true≢false}
 use mathlib.Core.List.{List}
+use mathlib.Core.Logic.{_↔_}
 use Prim.Native.Nat.{ℕ}
 use native.Mathlib.Omega.{arith}
 use lib.IntN.{ℤ, pos, _+ℤ_, _-ℤ_}
@@ -10,12 +11,11 @@ use Rattle.numbers.proofs.Halves.{zarith, add-is, sub-is}
 use Rattle.method.specs.Types.{Side, Up, Down, Line, State, steps}
 use Rattle.method.specs.Bounds.{bound}
 use Rattle.method.specs.Opening.{permits-negative}
-use Rattle.method.specs.Table.{header-of, opened, opening-state, opening}
 use Rattle.method.specs.Event.{read}
 use Rattle.method.specs.CalledFor.{time, Right, reached, joined}
 use Rattle.method.specs.Ranges.{Room}
 use Rattle.method.specs.Later.{start}
-use Rattle.method.specs.Rule3.{
+use Rattle.method.specs.Rule3Words.{
   inside,
   FloorMet,
   at-opening,
@@ -26,6 +26,8 @@ use Rattle.method.specs.Rule3.{
   Shifted,
   Outward,
   StaysFrozen,
+}
+use Rattle.method.specs.Rules.{
   Centres,
   HalfWidthsGrow,
   ShiftsWithin,
@@ -41,7 +43,7 @@ use Rattle.method.specs.Rule3.{
   ShiftsLead,
 }
 use Rattle.method.proofs.Each.{each-weaker, each-with}
-use Rattle.method.proofs.Table.{accepted-table}
+use Rattle.method.proofs.Table.{accepted-table, table-most}
 use Rattle.method.proofs.Later.{moment-after, moment-reached, moment-rest, answers-split, held-opening, held-moment}
 use Rattle.method.proofs.Reached.{shifted-moment, left-moment, Limited, wider-moment}
 
@@ -70,14 +72,10 @@ pub rule3-lower : LowerInside
 rule3-lower table o e bs rs r = each-weaker _ _ (λ a l s. s .lower) (o .lines) (reached o bs rs .lines) (rule3-lines table o e bs rs r)
 
 -- ---- the number of shifts
-table-most : (table : List ℕ) (o : State) → opening table ≡ opened o → o .left ≡ header-of table .most
-unfolding opening-state
-table-most table o e = ap (λ (s : State). s .left) (accepted-table table o e .opens)
-
 pub rule3-shifts : ShiftsWithin
 rule3-shifts table o e bs rs r =
     let left = left-moment (held-opening o (accepted-table table o e .state)) (rule3-answers-lead o bs rs r) ∙ table-most table o e in
-    (omega arith, left)
+    (omega (arith, left), left)
 
 -- ---- from a moment to a later one
 pub rule3-never-inward : NeverInward
@@ -108,7 +106,7 @@ not-met : (o l : Line) → o .limits .frozen ≡ false → (permits-negative (l 
 not-met o l z least e (at-opening f) = true≢false (sym f ∙ z)
 not-met o l z least e (in-a-shift g h) = not-below (l .limits .lower .0) (bound Down (l .terms) (l .market)) (inside Down o) e (least g) h
 
-frozen-tells : (o l : Line) → Lower o l → (l .limits .frozen ≡ true → FloorMet o l) × (FloorMet o l → l .limits .frozen ≡ true)
+frozen-tells : (o l : Line) → Lower o l → (l .limits .frozen ≡ true) ↔ FloorMet o l
 frozen-tells o l (exactly z least e f) = (λ y. absurd (true≢false (sym y ∙ f)), λ x. absurd (not-met o l z least e x))
 frozen-tells o l (at-floor x w i f) = (λ y. x, λ y. f)
 

@@ -11,7 +11,7 @@ use Rattle.method.specs.Shift.{shifted, onward, after}
 use Rattle.method.specs.CalledFor.{Stands, Ahead, earlier, up-first, lowest, due-at, First, Done, Calls}
 use Rattle.method.specs.Search.{called, if-due, next-due, serve}
 use Rattle.method.specs.Ranges.{Every}
-use Rattle.method.specs.Rule2.{hold-at, remaining, Precedes, before, up-down, Rising, Timely, Caller}
+use Rattle.method.specs.Rule2Words.{hold-at, remaining, Precedes, before, up-down, Rising, Timely, Caller}
 use Rattle.method.proofs.Exact.{exact-shifted}
 use Rattle.method.proofs.HoldLife.{Judged, up-not-down, onward-life, life-since, remaining-since, held-pressed}
 use Rattle.method.proofs.FirstFound.{FoundIn, next-due-found}

@@ -15,7 +15,7 @@ use Rattle.method.specs.Pressure.{judge}
 use Rattle.method.specs.Shift.{toward, moved, redrawn, moved-line, shift-line}
 use Rattle.method.specs.Event.{quoted-line}
 use Rattle.method.specs.Ranges.{Floor, Opened, Room}
-use Rattle.method.specs.Rule3.{alike, inside, FloorMet, at-opening, in-a-shift, Lower, exactly, at-floor, Shifted}
+use Rattle.method.specs.Rule3Words.{alike, inside, FloorMet, at-opening, in-a-shift, Lower, exactly, at-floor, Shifted}
 use Rattle.method.proofs.Bounds.{bound-kept, lower-falls}
 use Rattle.method.proofs.Floor.{Floored, free, met, floor-of, floored-upper}
 use Rattle.method.proofs.Redrawn.{lowered, one-at-floor, Wider, limits-wider}

@@ -78,7 +78,7 @@ keys-in line before (k ∷ keys) e = go (key-good before k) refl e (keys-in (suc
     go false q e more = absurd (no-line e)
 
 -- ---- the lines
-not-opened : {why : TableReason} {line : ℕ} {s : State} → refused why line ≡ opened s → ⊥
+pub not-opened : {why : TableReason} {line : ℕ} {s : State} → refused why line ≡ opened s → ⊥
 not-opened e = let z : _≡_ {A = ℕ} 0 1 = cc in omega arith
 
 same-state : {s r : State} → opened s ≡ opened r → s ≡ r
@@ -165,3 +165,7 @@ accepted-table b s e =
           state = state-in h (length cs) s i (contracts-length b (contracts-start h) (h .contracts)) r;
         }
     go (some line) q e long layout i = absurd (not-opened e)
+
+pub table-most : (table : List ℕ) (o : State) → opening table ≡ opened o → o .left ≡ header-of table .most
+unfolding opening-state
+table-most table o e = ap (λ (s : State). s .left) (accepted-table table o e .opens)

@@ -27,7 +27,7 @@ use Rattle.method.specs.Table.{
   opening,
 }
 use Rattle.method.specs.Ranges.{HeaderIn, KeyIn, KeysIn}
-use Rattle.method.specs.Rule1.{
+use Rattle.method.specs.Rule1Words.{
   Laid,
   Framed,
   keys-of,
@@ -37,6 +37,8 @@ use Rattle.method.specs.Rule1.{
   Good,
   GoodAll,
   Fault,
+}
+use Rattle.method.specs.Rules.{
   TableAnswered,
   too-short,
   edition-not-1,
@@ -45,7 +47,6 @@ use Rattle.method.specs.Rule1.{
   bad-key-line,
   bad-contract-line,
   all-good,
-  EveryTable,
 }
 use Rattle.method.proofs.Table.{header-in, key-in}
 use Rattle.method.proofs.Decided.{denied, refuted, by-demand, header-test, laid-in, laid-test, key-test}
@@ -166,7 +167,7 @@ records-answered b f = go (keys-answered 1 0 (keys-of b))
     go (key-bad good k rest n e r q z) =
         subst (λ (n : ℕ). TableAnswered b (refused TableReason.Key n)) (omega arith) (bad-key-line good k rest f e r q)
 
-table-answered : (b : List ℕ) → TableAnswered b (opening b)
+pub table-answered : (b : List ℕ) → TableAnswered b (opening b)
 unfolding opening
 table-answered b =
     let h = header-of b in
@@ -186,7 +187,7 @@ unfolding opening
 framed-opening b f =
     rw (le-leb _ _ (f .long), eq-eqb _ _ (f .edition), header-test (header-of b) (f .ranges), laid-test (header-of b) (length b) (f .laid))
 
-answered-table : (b : List ℕ) {a : Opening} → TableAnswered b a → opening b ≡ a
+pub answered-table : (b : List ℕ) {a : Opening} → TableAnswered b a → opening b ≡ a
 unfolding opening
 answered-table b (too-short h) = rw (lt-leb _ _ h)
 answered-table b (edition-not-1 h e) = rw (le-leb _ _ h, ne-eqb _ _ e)
@@ -209,6 +210,3 @@ answered-table b (all-good f k r) = framed-opening b f ∙ go
   where
     go : open-records (header-of b) (keys-of b) (contracts-of b) ≡ opened (opening-state (header-of b) (lines-of (header-of b .shift) (keys-of b) (contracts-of b)))
     go = unfold open-records in rw (no-bad-key 1 0 (keys-of b) k) (lines-opened (header-of b) (keys-of b) 1 [] (contracts-of b) r)
-
-pub every-table : EveryTable
-every-table b a = (λ e. subst (TableAnswered b) e (table-answered b), answered-table b)

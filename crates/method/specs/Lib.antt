@@ -16,7 +16,8 @@ pub mod Figures
 pub mod Examples
 pub mod Ranges
 pub mod Sound
-pub mod Rule1
-pub mod Rule2
 pub mod Later
-pub mod Rule3
+pub mod Rule1Words
+pub mod Rule2Words
+pub mod Rule3Words
+pub mod Rules

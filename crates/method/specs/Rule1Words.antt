@@ -1,22 +1,23 @@
--- Rule 1: "Every table and every event, however damaged, gets an answer." Which answer, number by number, over the fields and ranges of
--- paper 01's tables and with none of the tests that the definitions decide by.
+-- The words of rule 1: what a table and an event have to be, over the fields and ranges of paper 01's tables, with none of the tests that
+-- the definitions decide by.
 use mathlib.Core.Path.{_≡_}
 use mathlib.Core.Bool.{Bool, true, false}
-use mathlib.Core.List.{List, [], _∷_, _++_, map}
-use mathlib.Core.Logic.{_↔_}
-use Prim.Native.Nat.{ℕ, suc, _+_, _*_, _≤_, _<_}
+use mathlib.Core.List.{List, [], _∷_, _++_}
+use Prim.Native.Nat.{ℕ, _≤_, _<_}
 use lib.IntN.{ℤ, pos}
 use lib.ListN.{length}
 use lib.Signed.{_≤ℤ_, _<ℤ_}
 use Rattle.numbers.specs.Ranges.{Within}
-use Rattle.method.specs.Types.{Up, Down, Millionths, Header, Key, Contract, Terms, Market, Limits, Line, State, TableReason, EventReason, EventAnswer}
+use Rattle.method.specs.Types.{Up, Down, Millionths, Header, Key, Contract, Terms, Market, Limits, Line, State, TableReason, EventReason}
 use Rattle.method.specs.Wire.{word, signed, bit}
 use Rattle.method.specs.Growth.{most-exponent}
 use Rattle.method.specs.Bounds.{bound}
 use Rattle.method.specs.Opening.{exponent-of, terms-of, market-of, corridor, fresh-line}
-use Rattle.method.specs.Table.{header-of, keys-at, contracts-start, contracts-at, table-length, Opening, opened, refused, opening-state, opening}
-use Rattle.method.specs.Event.{read, verdict}
-use Rattle.method.specs.Ranges.{HeaderIn, KeyIn, KeysIn, ContractIn, Every}
+use Rattle.method.specs.Table.{header-of, keys-at, contracts-start, contracts-at, table-length}
+use Rattle.method.specs.Event.{read, refused}
+use Rattle.method.specs.CalledFor.{joined}
+use Rattle.method.specs.Search.{run, finally}
+use Rattle.method.specs.Ranges.{HeaderIn, ContractIn, Every}
 
 -- ---- a table that is laid out as its header says
 pub record Laid (h : Header) (size : ℕ) : Type 0 where
@@ -84,36 +85,6 @@ module _ (shift : Millionths) (keys : List Key) where
         ContractIn c → Fresh earlier (c .id) → exponent-of keys c ≤ most-exponent → pos 1 ≤ℤ (its-terms c .halfmove .0)
         → (Inside (its-terms c) (market-of c) (its-corridor c) → ⊥) → Fault earlier c TableReason.Corridor
 
--- ---- the answer to a table: one clause for each way, of which exactly one holds
-pub data TableAnswered (b : List ℕ) : Opening → Type 0 where
-  -- 1
-  too-short : length b < 40 → TableAnswered b (refused TableReason.Length 0)
-  -- 2
-  edition-not-1 : 40 ≤ length b → (header-of b .edition ≡ 1 → ⊥) → TableAnswered b (refused TableReason.Edition 0)
-  -- 3
-  header-out-of-range :
-      40 ≤ length b → header-of b .edition ≡ 1 → (HeaderIn (header-of b) → ⊥) → TableAnswered b (refused TableReason.Header 0)
-  -- the rest of 1
-  not-as-counts-say :
-      40 ≤ length b → header-of b .edition ≡ 1 → HeaderIn (header-of b) → (Laid (header-of b) (length b) → ⊥)
-      → TableAnswered b (refused TableReason.Length 0)
-  -- 4, with the key's line
-  bad-key-line :
-      (before : List Key) (k : Key) (rest : List Key) → Framed b → keys-of b ≡ before ++ k ∷ rest → KeysIn 0 before
-      → (KeyIn (last-days 0 before) k → ⊥) → TableAnswered b (refused TableReason.Key (suc (length before)))
-  -- 5 to 9, with the contract's line
-  bad-contract-line :
-      (before : List Contract) (c : Contract) (rest : List Contract) (why : TableReason) → Framed b → KeysIn 0 (keys-of b)
-      → contracts-of b ≡ before ++ c ∷ rest → GoodAll (header-of b .shift) (keys-of b) [] before
-      → Fault (header-of b .shift) (keys-of b) before c why → TableAnswered b (refused why (suc (length before)))
-  all-good :
-      Framed b → KeysIn 0 (keys-of b) → GoodAll (header-of b .shift) (keys-of b) [] (contracts-of b)
-      → TableAnswered b (opened (opening-state (header-of b) (map (its-line (header-of b .shift) (keys-of b)) (contracts-of b))))
-
--- Every list of bytes opens a state or is refused with exactly one number and line, under exactly these conditions.
-abbrev pub EveryTable : Type 0
-EveryTable = (b : List ℕ) (a : Opening) → (opening b ≡ a) ↔ TableAnswered b a
-
 -- ---- a byte string that is an event
 -- "An absent price is 0", a present one lies in ±2,000,000,000
 pub record PriceField (present : Bool) (z : ℤ) : Type 0 where
@@ -151,23 +122,12 @@ pub record IsCrossed (b : List ℕ) : Type 0 where
   pub ask : bit 1 (word b 8) ≡ true
   pub above : (signed (word b 16)) <ℤ (signed (word b 12))
 
--- ---- the answer to an event in state s: one clause for each way, of which exactly one holds
-pub data EventAnswered (s : State) (b : List ℕ) : EventAnswer → Type 0 where
-  -- 12
-  no-event : (IsEvent b → ⊥) → EventAnswered s b (EventAnswer.Refused EventReason.Malformed)
-  -- 10
-  after-end : IsEvent b → s .end .0 < word b 0 → EventAnswered s b (EventAnswer.Refused EventReason.AfterEnd)
-  -- 11
-  before-clock :
-      IsEvent b → word b 0 ≤ s .end .0 → word b 0 < s .clock .0 → EventAnswered s b (EventAnswer.Refused EventReason.BeforeClock)
-  -- 13
-  unknown-id : IsQuote b → InSession s b → Unknown s b → EventAnswered s b (EventAnswer.Refused EventReason.UnknownId)
-  -- 14
-  crossed :
-      IsQuote b → InSession s b → (Unknown s b → ⊥) → IsCrossed b → EventAnswered s b (EventAnswer.Refused EventReason.Crossed)
-  tick-taken : IsTick b → InSession s b → EventAnswered s b EventAnswer.Accepted
-  quote-taken : IsQuote b → InSession s b → (Unknown s b → ⊥) → (IsCrossed b → ⊥) → EventAnswered s b EventAnswer.Accepted
-
--- Every byte string, in every state, is accepted or refused with exactly one number, under exactly these conditions.
-abbrev pub EveryEvent : Type 0
-EveryEvent = (s : State) (b : List ℕ) (a : EventAnswer) → (verdict s (read b) ≡ a) ↔ EventAnswered s b a
+-- ---- a refused event
+-- The event b, refused for `why` after the events `past`, can be struck out of the list: it is answered with its refusal and no shift line,
+-- the whole state after it, its clock included, is the one before it, and whatever comes later, state and shift lines are those without it.
+pub record Struck (s : State) (past : List (List ℕ)) (b : List ℕ) (why : EventReason) (rest : List (List ℕ)) : Type 0 where
+  pub answer : run (finally s past) (b ∷ []) ≡ refused why ∷ []
+  pub state : finally s (past ++ b ∷ []) ≡ finally s past
+  pub lines : joined (run s (past ++ b ∷ [])) ≡ joined (run s past)
+  pub later-state : finally s (past ++ b ∷ rest) ≡ finally s (past ++ rest)
+  pub later-lines : joined (run s (past ++ b ∷ rest)) ≡ joined (run s (past ++ rest))
