@@ -5,52 +5,23 @@ use mathlib.Core.Logic.{_⊎_, inl, inr}
 use mathlib.Core.List.{List, [], _∷_, _++_, append-assoc}
 use Prim.Native.Nat.{ℕ, zero, suc, _+_, _≤_, _<_}
 use native.Mathlib.Omega.{arith}
-use lib.Dec.{leb}
 use lib.ListN.{length, getD, length-append}
-use borrow.Author.Tests.{leb-true}
-use Rattle.method.specs.Types.{
-  Side,
-  Seconds,
-  Idle,
-  Since,
-  Line,
-  Event,
-  Damaged,
-  Tick,
-  Quoted,
-  ShiftLine,
-  State,
-  EventReason,
-  EventAnswer,
-  blank,
-}
+use Rattle.method.specs.Types.{Side, Seconds, Idle, Since, Line, Event, Damaged, Tick, Quoted, ShiftLine, State, EventAnswer, blank}
 use Rattle.method.specs.Table.{opening, opened}
 use Rattle.method.specs.Pressure.{hold-of}
 use Rattle.method.specs.Shift.{after}
-use Rattle.method.specs.Event.{read, in-session, verdict, applied, Answer, accepted, refused, next}
+use Rattle.method.specs.Event.{read, verdict, applied, Answer, accepted, refused, next}
 use Rattle.method.specs.CalledFor.{Done, time, Right, Answers, reached, lines-of, joined}
 use Rattle.method.specs.Search.{serve, answered, answer, run, finally}
 use Rattle.method.specs.Ranges.{Every, Opened}
 use Rattle.method.specs.Sound.{Exact, Sound}
 use Rattle.method.specs.Rule2Words.{hold-at, Precedes, before, Rising, Timely, Reported}
-use Rattle.method.proofs.Demands.{met-by}
 use Rattle.method.proofs.Every.{every-weaker, every-append}
 use Rattle.method.proofs.Table.{accepted-table}
 use Rattle.method.proofs.Exact.{exact-opened, exact-applied}
+use Rattle.method.proofs.Events.{not-accepted, on-time}
 use Rattle.method.proofs.HoldLife.{Judged, no-since, blank-idle, applied-life, life-since}
-use Rattle.method.proofs.Serving.{
-  serve-calls,
-  calls-unique,
-  after-append,
-  calls-append,
-  calls-rising,
-  after-kept,
-  after-judged,
-  after-left,
-  calls-left,
-  calls-done,
-  calls-timely,
-}
+use Rattle.method.proofs.Serving.{serve-calls, calls-unique, calls-rising, after-kept, after-judged, after-left, calls-left, calls-done, calls-timely}
 
 -- ---- a session is sound at opening
 opened-idle : (side : Side) (ls : List Line) (n : ℕ) → Every Opened ls → hold-of side (getD ls n blank .holds) ≡ Idle
@@ -73,25 +44,9 @@ sound-opening table o e =
     }
 
 -- ---- an accepted event does not lie before the clock
-not-accepted : {why : EventReason} → EventAnswer.Refused why ≡ EventAnswer.Accepted → ⊥
-not-accepted e = let z : _≡_ {A = ℕ} 0 1 = cc in omega arith
-
-in-session-clock : (s : State) (t : Seconds) (onward : EventAnswer) → in-session s t onward ≡ EventAnswer.Accepted → s .clock .0 ≤ t .0
-unfolding in-session
-in-session-clock s t onward e =
-    let a = met-by (leb (t .0) (s .end .0)) not-accepted e in
-    let b = met-by (leb (s .clock .0) (t .0)) not-accepted (a .1) in
-    leb-true _ _ (b .0)
-
-from-clock : (s : State) (e : Event) → verdict s e ≡ EventAnswer.Accepted → s .clock .0 ≤ time e .0
-unfolding verdict
-from-clock s Damaged v = absurd (not-accepted v)
-from-clock s (Tick t) v = in-session-clock s t _ v
-from-clock s (Quoted q) v = in-session-clock s (q .time) _ v
-
 pub right-from-clock : (s : State) (e : Event) (cs : List ShiftLine) → Right s e (accepted cs) → s .clock .0 ≤ time e .0
 unfolding Right
-right-from-clock s e cs r = from-clock s e (r .0)
+right-from-clock s e cs r = on-time s e (r .0) .least
 
 -- ---- the engine's answer is right, and no other is
 answer-right : (s : State) (e : Event) → Judged s → Right s e (answer s e)
@@ -222,24 +177,6 @@ pub joined-append : (rs qs : List Answer) → joined (rs ++ qs) ≡ joined rs ++
 unfolding joined
 joined-append [] qs = refl
 joined-append (r ∷ rs) qs = rw (joined-append rs qs, append-assoc)
-
--- ---- serving up to u and then up to t (u ≤ t) is serving up to t, lines and state
-pub serve-on : (s : State) (u t : Seconds) → Sound s → u .0 ≤ t .0
-    → let cs : List ShiftLine = serve (s .left) u s in
-    let m : State = after cs s in
-    (serve (s .left) t s ≡ cs ++ serve (m .left) t m) × (after (serve (s .left) t s) s ≡ after (serve (m .left) t m) m)
-serve-on s u t v h = (same, rw (same, after-append))
-  where
-    cs : List ShiftLine
-    cs = serve (s .left) u s
-
-    m : State
-    m = after cs s
-
-    same : serve (s .left) t s ≡ cs ++ serve (m .left) t m
-    same =
-        calls-unique t s _ _ (serve-calls (s .left) t s refl (v .exact))
-        (calls-append u t cs _ s h (serve-calls (s .left) u s refl (v .exact)) (serve-calls (m .left) t m refl (after-judged cs s (v .exact))))
 
 -- ---- order over the whole list of shift lines
 pub next-timely : (s : State) (e : Event) (cs : List ShiftLine) → Sound s → Right s e (accepted cs) → Every (Timely (s .clock) (time e) (s .end)) cs

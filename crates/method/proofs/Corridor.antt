@@ -5,10 +5,10 @@ use mathlib.Core.Logic.{⊎-elim}
 use Prim.Native.Nat.{ℕ, _≤_}
 use lib.Dec.{lit<}
 use lib.IntN.{ℤ, pos, negsuc, _+ℤ_, _-ℤ_, _*ℤ_}
-use lib.Signed.{ltZ, leZ, _≤ℤ_, _<ℤ_}
-use Rattle.numbers.specs.Ranges.{Between, Span}
-use Rattle.numbers.specs.Rounding.{floor, ceiling}
-use Rattle.numbers.proofs.Halves.{zarith, add-is, sub-is, mul-is, lmul-is}
+use lib.Signed.{ltZ, _≤ℤ_}
+use Rattle.numbers.specs.Ranges.{Span}
+use Rattle.numbers.specs.Rounding.{floor}
+use Rattle.numbers.proofs.Halves.{zarith, add-is, sub-is, mul-is}
 use Rattle.numbers.proofs.Linear.{≤ℤ-trans, le-or-lt, mul-mono, mul-grows, mul-sinks}
 use Rattle.numbers.proofs.Rounding.{floor-mono, ceiling-mono, floor-exact, ceiling-exact}
 use Rattle.numbers.proofs.Tests.{both, lt-true, lt-false, le-true}

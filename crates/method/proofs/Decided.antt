@@ -7,7 +7,7 @@ use Prim.Native.Nat.{ℕ}
 use lib.Dec.{eqb}
 use borrow.Author.Tests.{eqb-true, eqb-false, le-leb, lt-ltb, eq-eqb, ne-eqb}
 use Rattle.numbers.proofs.Tests.{both, both-true, never-both, le-true, true-le, range-in, span-in, within-in}
-use Rattle.method.specs.Types.{Header, Key, Contract, Terms, Market, Limits, Line, demand}
+use Rattle.method.specs.Types.{Header, Key, Contract, Terms, Market, Limits, Line}
 use Rattle.method.specs.Opening.{permits-negative, rates-good, fields-good, known, inside-bounds}
 use Rattle.method.specs.Table.{header-good, laid-out, key-good}
 use Rattle.method.specs.Ranges.{HeaderIn, KeyIn, ContractIn, Every}
@@ -28,10 +28,6 @@ denied-not t f e p = never-both (f p) e
 pub refuted-not : {P : Type 0} (t : Bool) → (t ≡ false → P) → (P → ⊥) → t ≡ true
 refuted-not true f n = refl
 refuted-not false f n = absurd (n (f refl))
-
-pub by-demand : {A : Type 0} (P : A → Type 0) (t : Bool) {refusal onward : A} → (t ≡ true → P onward) → (t ≡ false → P refusal) → P (demand t refusal onward)
-by-demand P true f g = f refl
-by-demand P false f g = g refl
 
 -- ---- each test holds where its fact does (the other way stands in proofs/Opening and proofs/Table)
 pub header-test : (h : Header) → HeaderIn h → header-good h ≡ true

@@ -1,6 +1,6 @@
 -- What a choice by a test tells: an answer that is no refusal met every demand on the way. Assumes nothing.
 use mathlib.Core.Path.{_≡_, refl}
-use mathlib.Core.Bool.{Bool, true, false}
+use mathlib.Core.Bool.{Bool, true, false, cond}
 use Rattle.method.specs.Types.{demand}
 
 -- an answer that the refusal is not comes from a demand that was met
@@ -8,7 +8,12 @@ pub met-by : {A : Type 0} (t : Bool) {refusal onward answer : A} → (refusal �
 met-by true n e = (refl, e)
 met-by false n e = absurd (n e)
 
--- what holds of the refusal, and of the rest where the test holds, holds of the choice
-pub demand-keeps : {A : Type 0} (P : A → Type 0) (t : Bool) {refusal onward : A} → P refusal → (t ≡ true → P onward) → P (demand t refusal onward)
-demand-keeps P true r o = o refl
-demand-keeps P false r o = r
+-- what holds of both outcomes, each where the test says so, holds of the choice
+module _ {A : Type 0} (P : A → Type 0) where
+  pub by-demand : (t : Bool) {refusal onward : A} → (t ≡ true → P onward) → (t ≡ false → P refusal) → P (demand t refusal onward)
+  by-demand true f g = f refl
+  by-demand false f g = g refl
+
+  pub by-cond : (t : Bool) {x y : A} → (t ≡ true → P x) → (t ≡ false → P y) → P (cond t x y)
+  by-cond true f g = f refl
+  by-cond false f g = g refl

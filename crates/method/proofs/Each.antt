@@ -37,18 +37,8 @@ each-map P R S f h [] (l ∷ ls) ps rs = rs
 each-map P R S f h (o ∷ os) [] ps rs = rs
 each-map P R S f h (o ∷ os) (l ∷ ls) ps rs = (h o l (ps .0) (rs .0), each-map P R S f h os ls (ps .1) (rs .1))
 
--- ---- what `quoted-line` keeps
+-- ---- what the quote of one line keeps of two lists
 module _ (near : Millionths) (left : ℕ) (q : Quote) where
-  pub every-quoted : (P : Line → Type 0) → ((l : Line) → P l → P (quoted-line near left q l)) → (ls : List Line) → Every P ls
-      → Every P (quoted near left q ls)
-  unfolding Every quoted
-  every-quoted P h [] ps = tt
-  every-quoted P h (l ∷ ls) ps = go (eqb (l .terms .id) (q .id)) (every-quoted P h ls (ps .1))
-    where
-      go : (b : Bool) → Every P (quoted near left q ls) → Every P (cond b (quoted-line near left q l ∷ ls) (l ∷ quoted near left q ls))
-      go true more = (h l (ps .0), ps .1)
-      go false more = (ps .0, more)
-
   pub each-quoted : (R : Line → Line → Type 0) → ((o l : Line) → R o l → R o (quoted-line near left q l)) → (os ls : List Line) → Each R os ls
       → Each R os (quoted near left q ls)
   unfolding Each quoted

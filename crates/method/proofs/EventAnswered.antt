@@ -1,31 +1,21 @@
 -- Rule 1 for events: which answer a byte string has in a state, number by number. Assumes nothing.
-use mathlib.Core.Path.{_≡_, refl, sym, ap, _∙_, subst}
-use mathlib.Core.Bool.{Bool, true, false, cond, _&&_, _||_}
-use mathlib.Core.List.{List, [], _∷_}
+use mathlib.Core.Path.{_≡_, refl, _∙_}
+use mathlib.Core.Bool.{Bool, true, false, _&&_}
+use mathlib.Core.List.{List}
 use Prim.Native.Nat.{ℕ, _≤_, _<_}
 use native.Mathlib.Omega.{arith}
 use lib.Dec.{leb, ltb, eqb}
 use lib.IntN.{ℤ, pos}
 use lib.ListN.{length}
-use lib.Signed.{leZ, _<ℤ_}
+use lib.Signed.{_<ℤ_}
 use borrow.Author.Tests.{leb-true, leb-false, ltb-true, eqb-true, eqb-false, le-leb, lt-leb, lt-ltb, eq-eqb, ne-eqb}
-use Rattle.numbers.specs.Ranges.{Within}
-use Rattle.numbers.specs.Tests.{in-span, same}
+use Rattle.numbers.specs.Tests.{same}
 use Rattle.numbers.proofs.Tests.{both, both-true, never-both, le-false, false-le, same-true, true-same, in-span-true, within-in}
-use Rattle.method.specs.Types.{Seconds, Price, Line, Quote, Event, Damaged, Tick, Quoted, State, EventReason, EventAnswer, seconds, demand}
+use Rattle.method.specs.Types.{Seconds, Quote, Event, Damaged, Tick, Quoted, State, EventReason, EventAnswer, seconds}
 use Rattle.method.specs.Wire.{word, signed, bit}
 use Rattle.method.specs.Opening.{known}
 use Rattle.method.specs.Event.{price-good, price-of, read-tick, read-quote, read, in-session, not-crossed, verdict}
-use Rattle.method.specs.Ranges.{Every}
-use Rattle.method.specs.Rule1Words.{
-  PriceField,
-  IsTick,
-  IsQuote,
-  IsEvent,
-  InSession,
-  Unknown,
-  IsCrossed,
-}
+use Rattle.method.specs.Rule1Words.{PriceField, IsTick, IsQuote, IsEvent, InSession, IsCrossed}
 use Rattle.method.specs.Rules.{
   EventAnswered,
   no-event,
@@ -36,7 +26,8 @@ use Rattle.method.specs.Rules.{
   tick-taken,
   quote-taken,
 }
-use Rattle.method.proofs.Decided.{denied, denied-not, refuted-not, by-demand, known-not, not-known}
+use Rattle.method.proofs.Demands.{by-demand, by-cond}
+use Rattle.method.proofs.Decided.{denied, denied-not, refuted-not, known-not, not-known}
 
 -- ---- the fields of a price
 price-in : (present : Bool) (z : ℤ) → price-good present z ≡ true → PriceField present z
@@ -102,10 +93,6 @@ module _ (b : List ℕ) where
   bad-quote : (word b 8 ≡ 4 → ⊥) → (IsQuote b → ⊥) → IsEvent b → ⊥
   bad-quote f n (IsEvent.tick r) = f (r .flags)
   bad-quote f n (IsEvent.quote r) = n r
-
-  by-cond : (P : Event → Type 0) (t : Bool) {x y : Event} → (t ≡ true → P x) → (t ≡ false → P y) → P (cond t x y)
-  by-cond P true f g = f refl
-  by-cond P false f g = g refl
 
   says : Says b (read b)
   unfolding read read-tick read-quote

@@ -1,6 +1,6 @@
 -- What a byte string read as an event tells, what an accepted event tells, and that a shift changes no verdict. Assumes nothing.
 use mathlib.Core.Path.{_≡_, refl, ap, _∙_}
-use mathlib.Core.Bool.{Bool, true, false, cond, _&&_, _||_}
+use mathlib.Core.Bool.{Bool, true, false, _&&_, _||_}
 use mathlib.Core.List.{List, [], _∷_, map}
 use Prim.Native.Nat.{ℕ, _-_}
 use native.Mathlib.Omega.{arith}
@@ -19,7 +19,7 @@ use Rattle.method.specs.Shift.{moved-line, shift-line, shifted, onward, 
 use Rattle.method.specs.Event.{price-good, price-of, read-tick, read-quote, read, in-session, verdict}
 use Rattle.method.specs.CalledFor.{time}
 use Rattle.method.specs.Ranges.{PriceIn, EventIn}
-use Rattle.method.proofs.Demands.{met-by, demand-keeps}
+use Rattle.method.proofs.Demands.{met-by, by-demand, by-cond}
 
 -- ---- the prices that are read lie within 2,000,000,000
 price-in : (present : Bool) (z : ℤ) → price-good present z ≡ true → PriceIn (price-of present z)
@@ -29,27 +29,27 @@ price-in false z e = tt
 
 tick-in : (t : Seconds) (id : ℕ) (bid ask : ℤ) → EventIn (read-tick t id bid ask)
 unfolding read-tick EventIn
-tick-in t id bid ask = demand-keeps EventIn (eqb id 0 && same bid (pos 0) && same ask (pos 0)) tt (λ e. tt)
+tick-in t id bid ask = by-demand EventIn (eqb id 0 && same bid (pos 0) && same ask (pos 0)) (λ e. tt) (λ e. tt)
 
 quote-in : (t : Seconds) (id flags : ℕ) (bid ask : ℤ) → EventIn (read-quote t id flags bid ask)
 unfolding read-quote EventIn
 quote-in t id flags bid ask =
-    demand-keeps EventIn (ltb flags 4 && price-good (bit 0 flags) bid && price-good (bit 1 flags) ask) tt
+    by-demand EventIn (ltb flags 4 && price-good (bit 0 flags) bid && price-good (bit 1 flags) ask)
     (λ e. let last = both (ltb flags 4 && price-good (bit 0 flags) bid) (price-good (bit 1 flags) ask) e in
     let first = both (ltb flags 4) (price-good (bit 0 flags) bid) (last .0) in
     (price-in (bit 0 flags) bid (first .1), price-in (bit 1 flags) ask (last .1)))
+    (λ e. tt)
 
 pub read-in : (b : List ℕ) → EventIn (read b)
 unfolding read
-read-in b = demand-keeps EventIn (eqb (length b) 20) (unfold EventIn in tt) (λ e. go (eqb (word b 8) 4))
-  where
-    go : (c : Bool) → EventIn (cond c (read-tick (seconds (word b 0)) (word b 4) (signed (word b 12)) (signed (word b 16)))
-        (read-quote (seconds (word b 0)) (word b 4) (word b 8) (signed (word b 12)) (signed (word b 16))))
-    go true = tick-in (seconds (word b 0)) (word b 4) (signed (word b 12)) (signed (word b 16))
-    go false = quote-in (seconds (word b 0)) (word b 4) (word b 8) (signed (word b 12)) (signed (word b 16))
+read-in b =
+    by-demand EventIn (eqb (length b) 20)
+    (λ e. by-cond EventIn (eqb (word b 8) 4) (λ f. tick-in (seconds (word b 0)) (word b 4) (signed (word b 12)) (signed (word b 16)))
+    (λ f. quote-in (seconds (word b 0)) (word b 4) (word b 8) (signed (word b 12)) (signed (word b 16))))
+    (λ e. unfold EventIn in tt)
 
 -- ---- an accepted event's time lies between the clock and session end
-not-accepted : {why : EventReason} → EventAnswer.Refused why ≡ EventAnswer.Accepted → ⊥
+pub not-accepted : {why : EventReason} → EventAnswer.Refused why ≡ EventAnswer.Accepted → ⊥
 not-accepted e = let z : _≡_ {A = ℕ} 0 1 = cc in omega arith
 
 in-session-met : (s : State) (t : Seconds) (rest : EventAnswer) → in-session s t rest ≡ EventAnswer.Accepted → Between (s .clock .0) (s .end .0) (t .0)

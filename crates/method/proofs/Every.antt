@@ -1,8 +1,11 @@
--- Facts of every element of a list. Assumes nothing.
+-- Facts of every element of a list, and what the quote of one line keeps of every line. Assumes nothing.
+use mathlib.Core.Bool.{Bool, true, false, cond}
 use mathlib.Core.List.{List, [], _∷_, _++_, map}
-use Prim.Native.Nat.{ℕ, zero, suc, _<_}
-use native.Mathlib.Omega.{arith}
-use lib.ListN.{length, getD}
+use Prim.Native.Nat.{ℕ, zero, suc}
+use lib.Dec.{eqb}
+use lib.ListN.{getD}
+use Rattle.method.specs.Types.{Millionths, Line, Quote}
+use Rattle.method.specs.Event.{quoted-line, quoted}
 use Rattle.method.specs.Ranges.{Every}
 
 module _ {A : Type 0} where
@@ -20,15 +23,6 @@ module _ {A : Type 0} where
   unfolding Every
   every-all P h [] = tt
   every-all P h (x ∷ xs) = (h x, every-all P h xs)
-
-  pub every-at : (P : A → Type 0) (xs : List A) (d : A) (i : ℕ) → Every P xs → i < length xs → P (getD xs i d)
-  unfolding Every
-  every-at P [] d i ps h = absurd (never h)
-    where
-      never : i < 0 → ⊥
-      never h = omega arith
-  every-at P (x ∷ xs) d zero ps h = ps .0
-  every-at P (x ∷ xs) d (suc i) ps h = every-at P xs d i (ps .1) (omega arith)
 
   -- at any place, where what is read past the end has it too
   pub every-else : (P : A → Type 0) (xs : List A) (d : A) (i : ℕ) → Every P xs → P d → P (getD xs i d)
@@ -67,3 +61,15 @@ module _ {A : Type 0} where
   unfolding Every
   every-front P [] ys ps = tt
   every-front P (x ∷ xs) ys ps = (ps .0, every-front P xs ys (ps .1))
+
+-- ---- what the quote of one line keeps
+module _ (near : Millionths) (left : ℕ) (q : Quote) where
+  pub every-quoted : (P : Line → Type 0) → ((l : Line) → P l → P (quoted-line near left q l)) → (ls : List Line) → Every P ls
+      → Every P (quoted near left q ls)
+  unfolding Every quoted
+  every-quoted P h [] ps = tt
+  every-quoted P h (l ∷ ls) ps = go (eqb (l .terms .id) (q .id)) (every-quoted P h ls (ps .1))
+    where
+      go : (b : Bool) → Every P (quoted near left q ls) → Every P (cond b (quoted-line near left q l ∷ ls) (l ∷ quoted near left q ls))
+      go true more = (h l (ps .0), ps .1)
+      go false more = (ps .0, more)

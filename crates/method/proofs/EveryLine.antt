@@ -1,14 +1,12 @@
 -- What a shift and a quote keep of one line, every run keeps of all lines. Assumes nothing.
-use mathlib.Core.Bool.{Bool, true, false, cond}
 use mathlib.Core.List.{List, [], _∷_}
 use Prim.Native.Nat.{ℕ, _-_}
-use lib.Dec.{eqb}
 use Rattle.method.specs.Types.{Side, Seconds, Millionths, Line, Quote, Event, Damaged, Tick, Quoted, ShiftLine, State}
 use Rattle.method.specs.Shift.{shift-line, shifted, onward, after}
-use Rattle.method.specs.Event.{read, quoted-line, quoted, applied, Answer, accepted, refused, next}
+use Rattle.method.specs.Event.{read, quoted-line, applied, Answer, accepted, refused, next}
 use Rattle.method.specs.CalledFor.{reached}
 use Rattle.method.specs.Ranges.{Every}
-use Rattle.method.proofs.Every.{every-map}
+use Rattle.method.proofs.Every.{every-map, every-quoted}
 
 module _
     (P : Line → Type 0)
@@ -23,20 +21,11 @@ module _
   after-keeps [] s h = h
   after-keeps (c ∷ cs) s h = after-keeps cs (onward s c) (onward-keeps s c h)
 
-  quoted-keeps : (near : Millionths) (left : ℕ) (q : Quote) (ls : List Line) → Every P ls → Every P (quoted near left q ls)
-  unfolding Every quoted
-  quoted-keeps near left q [] h = tt
-  quoted-keeps near left q (l ∷ ls) h = go (eqb (l .terms .id) (q .id)) (quoted-keeps near left q ls (h .1))
-    where
-      go : (mine : Bool) → Every P (quoted near left q ls) → Every P (cond mine (quoted-line near left q l ∷ ls) (l ∷ quoted near left q ls))
-      go true more = (on-quote near left q l (h .0), h .1)
-      go false more = (h .0, more)
-
   applied-keeps : (e : Event) (s : State) → Every P (s .lines) → Every P (applied e s .lines)
   unfolding applied
   applied-keeps Damaged s h = h
   applied-keeps (Tick t) s h = h
-  applied-keeps (Quoted q) s h = quoted-keeps (s .near) (s .left) q (s .lines) h
+  applied-keeps (Quoted q) s h = every-quoted (s .near) (s .left) q P (on-quote (s .near) (s .left) q) (s .lines) h
 
   next-keeps : (s : State) (e : Event) (a : Answer) → Every P (s .lines) → Every P (next s e a .lines)
   unfolding next

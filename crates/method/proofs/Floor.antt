@@ -2,7 +2,7 @@
 use mathlib.Core.Path.{_≡_, refl, sym, _∙_}
 use mathlib.Core.Bool.{Bool, true, false, cond, true≢false}
 use Prim.Native.Nat.{ℕ}
-use lib.IntN.{ℤ, pos}
+use lib.IntN.{pos}
 use lib.Signed.{ltZ, leZ-yes, _≤ℤ_, _<ℤ_}
 use Rattle.numbers.proofs.Tests.{lt-true, lt-false}
 use Rattle.method.specs.Types.{Limits, steps}

@@ -1,23 +1,23 @@
 -- Laws of the growth factors and of the rate. Assumes nothing.
-use mathlib.Core.Path.{_≡_, refl, ap, sym, _∙_, subst}
-use mathlib.Core.Bool.{Bool, true, false, cond}
+use mathlib.Core.Path.{_≡_}
 use mathlib.Core.List.{List, [], _∷_}
 use mathlib.Core.Logic.{⊎-elim}
-use Prim.Native.Nat.{ℕ, zero, suc, _+_, _-_, _*_, _/_, _≤_, _<_, zero-le}
-use native.Mathlib.Nat.{le-refl, add-le-add, mul-le-mul, mul-le-mul-left, le-trans, le-div-iff-mul-le, div-le-of-le-mul}
+use Prim.Native.Nat.{ℕ, zero, suc, _-_, _*_, _/_, _≤_, _<_, zero-le}
+use native.Mathlib.Nat.{le-refl, add-le-add, mul-le-mul, le-trans, le-div-iff-mul-le, div-le-of-le-mul}
 use native.Mathlib.Omega.{arith}
-use lib.Dec.{lit≤, lit<, leb}
+use lib.Dec.{lit≤, leb}
 use lib.IntN.{ℤ, pos, natAbs, _+ℤ_, _-ℤ_, _*ℤ_}
 use lib.Signed.{_≤ℤ_, _<ℤ_}
 use borrow.Author.Tests.{leb-true, leb-false}
 use Rattle.numbers.specs.Ranges.{Between, Span}
 use Rattle.numbers.specs.Rounding.{floor}
 use Rattle.numbers.proofs.Halves.{zarith, add-is, sub-is, mul-is, apart, abs-is}
-use Rattle.numbers.proofs.Linear.{≤ℤ-trans, le-or-lt, mul-mono, mul-grows, mul-sinks}
+use Rattle.numbers.proofs.Linear.{le-or-lt, mul-mono, mul-grows, mul-sinks}
 use Rattle.numbers.proofs.Rounding.{div-mono, floor-mono, floor-exact}
-use Rattle.method.specs.Types.{Key, Factors}
-use Rattle.method.specs.Ranges.{KeyIn, KeysIn}
+use Rattle.method.specs.Types.{Key}
+use Rattle.method.specs.Ranges.{KeysIn}
 use Rattle.method.specs.Growth.{between-keys, rate-from, rate-by-keys, rate-at, most-exponent, term, series, up-factor, down-factor, factors-of}
+use Rattle.method.proofs.Demands.{by-cond}
 
 -- ---- the factor rises with the exponent, so that its values at 0 and at the cap bound it
 term-mono : {x y : ℕ} (k : ℕ) → x ≤ y → term x k ≤ term y k
@@ -113,22 +113,18 @@ between-keys-in l r days hl hr h g =
 key-rate-in : (n : ℕ) → n ≤ 1_000_000 → RateIn (pos n)
 key-rate-in n h = record { least = omega zarith; most = omega zarith }
 
-choose : (t : Bool) {a b : ℤ} → (t ≡ true → RateIn a) → (t ≡ false → RateIn b) → RateIn (cond t a b)
-choose true f g = f refl
-choose false f g = g refl
-
 rate-from-in : (l : Key) (keys : List Key) (days : ℕ) → l .rate .0 ≤ 1_000_000 → l .days < days → KeysIn (l .days) keys → RateIn (rate-from l keys days)
 unfolding rate-from KeysIn
 rate-from-in l [] days hl h k = key-rate-in (l .rate .0) hl
 rate-from-in l (r ∷ keys) days hl h k =
-    choose (leb days (r .days)) (λ e. between-keys-in l r days hl (k .0 .rate) h (leb-true days (r .days) e))
+    by-cond RateIn (leb days (r .days)) (λ e. between-keys-in l r days hl (k .0 .rate) h (leb-true days (r .days) e))
     (λ e. rate-from-in r keys days (k .0 .rate) (leb-false days (r .days) e) (k .1))
 
 rate-by-keys-in : (keys : List Key) (days : ℕ) → KeysIn 0 keys → RateIn (rate-by-keys keys days)
 unfolding rate-by-keys KeysIn
 rate-by-keys-in [] days k = key-rate-in 0 (omega arith)
 rate-by-keys-in (l ∷ keys) days k =
-    choose (leb days (l .days)) (λ e. key-rate-in (l .rate .0) (k .0 .rate))
+    by-cond RateIn (leb days (l .days)) (λ e. key-rate-in (l .rate .0) (k .0 .rate))
     (λ e. rate-from-in l keys days (k .0 .rate) (leb-false days (l .days) e) (k .1))
 
 -- A rate is never negative, so that its number of millionths is the rate itself.

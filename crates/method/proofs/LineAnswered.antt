@@ -1,21 +1,21 @@
 -- Rule 1 for one contract: which answer it has after some contracts before it. Assumes nothing.
-use mathlib.Core.Path.{_≡_, refl}
-use mathlib.Core.Bool.{Bool, true, false, _||_}
-use mathlib.Core.List.{List, [], _∷_, map}
+use mathlib.Core.Path.{_≡_}
+use mathlib.Core.Bool.{true}
+use mathlib.Core.List.{List, map}
 use Prim.Native.Nat.{ℕ}
-use lib.Dec.{leb, ltb, eqb}
+use lib.Dec.{leb, ltb}
 use lib.IntN.{pos}
 use lib.Signed.{leZ}
-use borrow.Author.Tests.{leb-true, leb-false, ltb-true, eqb-false, not-true, le-leb, lt-leb, lt-ltb, ne-eqb}
-use Rattle.numbers.proofs.Tests.{both, both-true, never-both, le-true, le-false, true-le, false-le}
+use borrow.Author.Tests.{leb-true, leb-false, ltb-true, not-true, le-leb, lt-leb, lt-ltb}
+use Rattle.numbers.proofs.Tests.{both, both-true, le-true, le-false, true-le, false-le}
 use Rattle.method.specs.Types.{Key, Contract, Millionths, Line, LineAnswer, TableReason}
 use Rattle.method.specs.Growth.{most-exponent}
 use Rattle.method.specs.Opening.{fields-good, known, id-good, exponent-of, terms-of, market-of, inside-bounds, fresh-line, opened-with, open-line}
-use Rattle.method.specs.Ranges.{Every}
 use Rattle.method.specs.Rule1Words.{Fresh, its-terms, its-corridor, its-line, Good, Fault}
 use Rattle.method.proofs.Every.{every-of-map, every-to-map}
 use Rattle.method.proofs.Opening.{contract-in}
-use Rattle.method.proofs.Decided.{denied, refuted, by-demand, known-not, not-known, fields-test, inside-in, inside-test}
+use Rattle.method.proofs.Demands.{by-demand}
+use Rattle.method.proofs.Decided.{denied, refuted, known-not, not-known, fields-test, inside-in, inside-test}
 
 -- ---- the ids of the lines that contracts open are the contracts' own
 module _ (shift : Millionths) (keys : List Key) where

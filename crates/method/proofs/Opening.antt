@@ -1,40 +1,23 @@
 -- The ranges of every number of an opened line. Assumes nothing.
-use mathlib.Core.Path.{_≡_, refl, sym, ap, _∙_, subst}
-use mathlib.Core.Bool.{Bool, true, false, cond, _&&_, _||_}
+use mathlib.Core.Path.{_≡_, refl, subst}
+use mathlib.Core.Bool.{Bool, true, false, cond}
 use mathlib.Core.List.{List}
-use Prim.Native.Nat.{ℕ, suc, _*_, _≤_, _<_}
+use Prim.Native.Nat.{ℕ, _*_, _≤_, _<_}
 use native.Mathlib.Nat.{mul-le-mul}
 use native.Mathlib.Omega.{arith}
 use lib.Dec.{leb}
 use lib.IntN.{ℤ, pos, negsuc, natAbs, _*ℤ_, *ℤ-comm}
 use lib.Signed.{ltZ, leZ, _≤ℤ_}
 use borrow.Author.Tests.{ltb-true, leb-true}
-use Rattle.numbers.specs.Ranges.{Within, Between, Span}
-use Rattle.numbers.specs.Rounding.{floor, ceiling}
+use Rattle.numbers.specs.Ranges.{Between, Span}
 use Rattle.numbers.proofs.Halves.{zarith, apart, abs-is}
 use Rattle.numbers.proofs.Linear.{≤ℤ-trans}
 use Rattle.numbers.proofs.Rounding.{floor-mono, ceiling-mono}
-use Rattle.numbers.proofs.Tests.{both, lt-true, lt-false, le-true, in-range-true, between-true, in-span-true}
-use Rattle.method.specs.Types.{Steps, Millionths, Key, Contract, Terms, Market, Line, LineAnswer, TableReason}
+use Rattle.numbers.proofs.Tests.{both, lt-false, le-true, in-range-true, between-true, in-span-true}
+use Rattle.method.specs.Types.{Steps, Millionths, Key, Contract, Line, LineAnswer, TableReason}
 use Rattle.method.specs.Growth.{rate-at, exponent, most-exponent}
-use Rattle.method.specs.Opening.{
-  permits-negative,
-  rates-good,
-  fields-good,
-  known,
-  id-good,
-  normal-price,
-  half-width,
-  market-of,
-  half-move,
-  terms-of,
-  corridor,
-  inside-bounds,
-  fresh-line,
-  opened-with,
-  open-line,
-}
-use Rattle.method.specs.Ranges.{ContractIn, TermsIn, MarketIn, Opened}
+use Rattle.method.specs.Opening.{rates-good, fields-good, id-good, normal-price, half-width, market-of, half-move, terms-of, corridor, inside-bounds, fresh-line, opened-with, open-line}
+use Rattle.method.specs.Ranges.{ContractIn, MarketIn, Opened}
 use Rattle.method.proofs.Demands.{met-by}
 use Rattle.method.proofs.Growth.{factors-in}
 use Rattle.method.proofs.Corridor.{corridor-in}

@@ -3,7 +3,6 @@ use mathlib.Core.Path.{_≡_, refl, sym, ap, _∙_, subst}
 use mathlib.Core.List.{List, [], _∷_, _++_, append-nil}
 use Prim.Native.Nat.{ℕ}
 use Rattle.method.specs.Types.{ShiftLine, State, EventReason, EventAnswer}
-use Rattle.method.specs.Table.{opened, refused, opening}
 use Rattle.method.specs.Event.{read, verdict, refused as turned-away, next}
 use Rattle.method.specs.CalledFor.{joined}
 use Rattle.method.specs.Search.{answer, run, finally}

@@ -6,7 +6,7 @@ use Rattle.method.specs.Types.{State}
 use Rattle.method.specs.Table.{opening, opened}
 use Rattle.method.specs.Shift.{after}
 use Rattle.method.specs.Event.{read, Answer, next}
-use Rattle.method.specs.CalledFor.{First, Calls, time, Right, Answers, reached, joined}
+use Rattle.method.specs.CalledFor.{First, Calls, time, Right, Answers, reached}
 use Rattle.method.specs.Search.{run}
 use Rattle.method.specs.Sound.{Sound}
 use Rattle.method.specs.Rule2Words.{Caller, Timely}
@@ -15,6 +15,7 @@ use Rattle.method.specs.Rules.{
   SessionReached,
   NothingLeft,
   NoneMissed,
+  WheneverLooked,
   HoldOverShift,
   HoldOverEvent,
   InOrder,
@@ -26,7 +27,7 @@ use Rattle.method.proofs.Every.{every-weaker, every-middle}
 use Rattle.method.proofs.Table.{accepted-table, table-most}
 use Rattle.method.proofs.EveryLine.{after-keeps, reached-keeps}
 use Rattle.method.proofs.HoldLife.{onward-life, applied-life}
-use Rattle.method.proofs.Serving.{after-kept, after-judged, calls-rest, first-caller}
+use Rattle.method.proofs.Serving.{after-append, calls-append, after-kept, after-judged, calls-rest, first-caller}
 use Rattle.method.proofs.Answers.{
   opening-idle,
   sound-opening,
@@ -71,6 +72,9 @@ rule2-none-missed table o e past told h b cs ds r x k p q =
     let fit-s = reached-keeps Fit fit-shift fit-quote o past told fit-o in
     calls-answer (time (read b)) (after cs s) ds x (after-keeps Fit fit-shift fit-quote cs s fit-s) (after-judged cs s (v .exact))
     (calls-rest (time (read b)) s cs ds (unfold Right in r .1)) k p (rw (after-kept cs s .end, end-reached o past told) q)
+
+pub rule2-whenever-looked : WheneverLooked
+rule2-whenever-looked s u t cs ds h a b = (calls-append u t cs ds s h a b, after-append cs ds s)
 
 -- ---- the life of a hold
 pub rule2-over-a-shift : HoldOverShift

@@ -1,14 +1,13 @@
 -- Rule 3: a theorem for each statement of specs/Rules. Assumes nothing.
-use mathlib.Core.Path.{_≡_, refl, sym, ap, _∙_}
+use mathlib.Core.Path.{_≡_, refl, sym, _∙_}
 use mathlib.Core.Bool.{true, false, true≢false}
-use mathlib.Core.List.{List}
 use mathlib.Core.Logic.{_↔_}
 use Prim.Native.Nat.{ℕ}
 use native.Mathlib.Omega.{arith}
 use lib.IntN.{ℤ, pos, _+ℤ_, _-ℤ_}
 use lib.Signed.{_≤ℤ_, _<ℤ_}
 use Rattle.numbers.proofs.Halves.{zarith, add-is, sub-is}
-use Rattle.method.specs.Types.{Side, Up, Down, Line, State, steps}
+use Rattle.method.specs.Types.{Side, Up, Down, Line, steps}
 use Rattle.method.specs.Bounds.{bound}
 use Rattle.method.specs.Opening.{permits-negative}
 use Rattle.method.specs.Event.{read}

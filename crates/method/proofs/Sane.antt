@@ -7,7 +7,7 @@ use Rattle.method.specs.Shift.{shift-line, shifted}
 use Rattle.method.specs.Event.{verdict, applied}
 use Rattle.method.specs.Ranges.{Opened, OpeningIn, Room, Sane, EventIn}
 use Rattle.method.proofs.Every.{every-map, every-weaker}
-use Rattle.method.proofs.Each.{every-quoted}
+use Rattle.method.proofs.Every.{every-quoted}
 use Rattle.method.proofs.Events.{on-time}
 use Rattle.method.proofs.Rooms.{room-shifted, room-quoted, room-opened}
 

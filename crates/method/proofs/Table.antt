@@ -1,36 +1,17 @@
 -- What an accepted table tells: the ranges of the header, of the keys, and of every opened line. Assumes nothing.
-use mathlib.Core.Path.{_≡_, refl, sym, ap, _∙_, subst}
+use mathlib.Core.Path.{_≡_, refl, ap, subst}
 use mathlib.Core.Bool.{Bool, true, false, cond}
 use mathlib.Core.List.{List, [], _∷_, _++_}
 use mathlib.Core.Option.{Option, none, some}
-use Prim.Native.Nat.{ℕ, zero, suc, _+_, _≤_, _<_}
+use Prim.Native.Nat.{ℕ, zero, suc, _+_, _≤_}
 use native.Mathlib.Omega.{arith}
 use lib.Dec.{leb, eqb}
 use lib.ListN.{length, length-append}
 use borrow.Author.Tests.{leb-true, ltb-true}
-use Rattle.numbers.specs.Ranges.{Between}
 use Rattle.numbers.proofs.Tests.{both, in-range-true}
 use Rattle.method.specs.Types.{Header, Key, Contract, Line, LineAnswer, TableReason, State}
 use Rattle.method.specs.Opening.{open-line}
-use Rattle.method.specs.Table.{
-  header-of,
-  keys-at,
-  contracts-start,
-  contracts-at,
-  header-good,
-  laid-out,
-  key-good,
-  bad-key,
-  Opening,
-  opened,
-  refused,
-  opening-state,
-  if-opened,
-  open-lines,
-  if-keys-good,
-  open-records,
-  opening,
-}
+use Rattle.method.specs.Table.{header-of, keys-at, contracts-start, contracts-at, header-good, laid-out, key-good, bad-key, opened, refused, opening-state, if-opened, open-lines, if-keys-good, open-records, opening}
 use Rattle.method.specs.Ranges.{KeyIn, KeysIn, HeaderIn, Every, Opened, OpeningIn}
 use Rattle.method.proofs.Every.{every-last}
 use Rattle.method.proofs.Demands.{met-by}

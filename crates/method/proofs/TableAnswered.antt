@@ -1,15 +1,14 @@
 -- Rule 1 for tables: which answer a list of bytes has, number by number. Assumes nothing.
 use mathlib.Core.Path.{_≡_, refl, sym, ap, _∙_, subst}
 use mathlib.Core.Bool.{Bool, true, false, cond}
-use mathlib.Core.List.{List, [], _∷_, _++_, map, append-nil, append-assoc}
+use mathlib.Core.List.{List, [], _∷_, _++_, append-nil, append-assoc}
 use mathlib.Core.Option.{Option, none, some}
-use Prim.Native.Nat.{ℕ, suc, _+_, _≤_, _<_}
+use Prim.Native.Nat.{ℕ, suc, _+_}
 use native.Mathlib.Omega.{arith}
 use lib.Dec.{leb, eqb}
 use lib.ListN.{length}
 use borrow.Author.Tests.{leb-true, leb-false, eqb-true, eqb-false, le-leb, lt-leb, eq-eqb, ne-eqb}
 use Rattle.method.specs.Types.{Header, Key, Contract, Line, LineAnswer, TableReason}
-use Rattle.method.specs.Opening.{open-line}
 use Rattle.method.specs.Table.{
   header-of,
   header-good,
@@ -26,18 +25,8 @@ use Rattle.method.specs.Table.{
   open-records,
   opening,
 }
-use Rattle.method.specs.Ranges.{HeaderIn, KeyIn, KeysIn}
-use Rattle.method.specs.Rule1Words.{
-  Laid,
-  Framed,
-  keys-of,
-  contracts-of,
-  last-days,
-  its-line,
-  Good,
-  GoodAll,
-  Fault,
-}
+use Rattle.method.specs.Ranges.{KeyIn, KeysIn}
+use Rattle.method.specs.Rule1Words.{Framed, keys-of, contracts-of, last-days, its-line, Good, GoodAll, Fault}
 use Rattle.method.specs.Rules.{
   TableAnswered,
   too-short,
@@ -49,7 +38,8 @@ use Rattle.method.specs.Rules.{
   all-good,
 }
 use Rattle.method.proofs.Table.{header-in, key-in}
-use Rattle.method.proofs.Decided.{denied, refuted, by-demand, header-test, laid-in, laid-test, key-test}
+use Rattle.method.proofs.Demands.{by-demand}
+use Rattle.method.proofs.Decided.{denied, refuted, header-test, laid-in, laid-test, key-test}
 use Rattle.method.proofs.LineAnswered.{lines-of, LineAnswered, line-answered, line-opened, line-refused}
 
 -- ---- the keys, from a line on

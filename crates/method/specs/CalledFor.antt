@@ -4,7 +4,7 @@ use mathlib.Core.Path.{_≡_}
 use mathlib.Core.List.{List, [], _∷_, _++_}
 use Prim.Native.Nat.{ℕ, _+_, _≤_, _<_}
 use lib.ListN.{getD}
-use Rattle.method.specs.Types.{Side, Up, Down, Seconds, Since, Event, Damaged, Tick, Quoted, ShiftLine, Due, State, EventAnswer, seconds, blank}
+use Rattle.method.specs.Types.{Up, Down, Seconds, Since, Event, Damaged, Tick, Quoted, ShiftLine, Due, State, EventAnswer, seconds, blank}
 use Rattle.method.specs.Pressure.{hold-of}
 use Rattle.method.specs.Shift.{onward}
 use Rattle.method.specs.Event.{read, verdict, Answer, accepted, refused, next}

@@ -1,9 +1,9 @@
 -- Holds and shifts where the paper admits two readings: the nine examples of docs/DECISIONS.md, "Holds and shifts" (B1 to B9), over the
 -- sample table of paper 01, in one table under one claim. A shift line is its second, its side (0 up, 1 down) and its id. Assumes nothing.
 use mathlib.Core.Path.{_≡_, refl}
-use mathlib.Core.List.{List, [], _∷_, _++_, map}
+use mathlib.Core.List.{List, [], _∷_, map}
 use Prim.Native.Nat.{ℕ}
-use lib.IntN.{ℤ, pos}
+use lib.IntN.{pos}
 use Rattle.method.specs.Wire.{word, signed, bit}
 use Rattle.method.specs.Growth.{between-keys, rate-from, rate-by-keys, rate-at, exponent, term, series, up-factor, down-factor, factors-of}
 use Rattle.method.specs.Bounds.{factor, interest, bound}

@@ -1,10 +1,10 @@
 -- "Figures on each side of the line" (paper 01): every starred figure, in one table under one claim. Assumes nothing.
 use mathlib.Core.Path.{_≡_, refl}
 use mathlib.Core.Bool.{Bool, true, false}
-use mathlib.Core.List.{List, [], _∷_, _++_, map}
+use mathlib.Core.List.{List, [], _∷_, map}
 use Prim.Native.Nat.{ℕ}
-use lib.IntN.{ℤ, pos, negsuc, negℤ}
-use Rattle.method.specs.Types.{Up, Down, Steps, Millionths, Key, Contract, Line, LineAnswer, Row, steps, millionths}
+use lib.IntN.{ℤ, pos, negsuc}
+use Rattle.method.specs.Types.{Up, Down, Key, Contract, Line, LineAnswer, steps, millionths}
 use Rattle.method.specs.Wire.{word, signed, bit}
 use Rattle.method.specs.Refusals.{table-number, event-number}
 use Rattle.method.specs.Growth.{between-keys, rate-from, rate-by-keys, rate-at, exponent, term, series, up-factor, down-factor, factors-of}

@@ -14,7 +14,7 @@ use Rattle.method.specs.Growth.{most-exponent}
 use Rattle.method.specs.Bounds.{bound}
 use Rattle.method.specs.Opening.{exponent-of, terms-of, market-of, corridor, fresh-line}
 use Rattle.method.specs.Table.{header-of, keys-at, contracts-start, contracts-at, table-length}
-use Rattle.method.specs.Event.{read, refused}
+use Rattle.method.specs.Event.{refused}
 use Rattle.method.specs.CalledFor.{joined}
 use Rattle.method.specs.Search.{run, finally}
 use Rattle.method.specs.Ranges.{HeaderIn, ContractIn, Every}

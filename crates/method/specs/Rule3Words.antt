@@ -5,7 +5,7 @@ use mathlib.Core.List.{List, [], _∷_}
 use Prim.Native.Nat.{ℕ, _+_}
 use lib.IntN.{ℤ, pos, _+ℤ_, _-ℤ_, _*ℤ_}
 use lib.Signed.{_≤ℤ_, _<ℤ_}
-use Rattle.method.specs.Types.{Side, Up, Down, Steps, Line, ShiftLine, State}
+use Rattle.method.specs.Types.{Side, Up, Down, Steps, Line, ShiftLine}
 use Rattle.method.specs.Bounds.{bound}
 use Rattle.method.specs.Opening.{permits-negative}
 use Rattle.method.specs.CalledFor.{reached, joined}

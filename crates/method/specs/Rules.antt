@@ -7,12 +7,12 @@ use mathlib.Core.List.{List, [], _∷_, _++_, map}
 use mathlib.Core.Logic.{_↔_}
 use Prim.Native.Nat.{ℕ, suc, _+_, _-_, _≤_, _<_}
 use lib.ListN.{length}
-use Rattle.method.specs.Types.{Side, Up, Down, Key, Contract, Line, ShiftLine, Due, State, Row, TableReason, EventReason, EventAnswer}
+use Rattle.method.specs.Types.{Side, Up, Down, Seconds, Key, Contract, Line, ShiftLine, Due, State, Row, TableReason, EventReason, EventAnswer}
 use Rattle.method.specs.Wire.{word}
 use Rattle.method.specs.Table.{header-of, Opening, opened, refused, opening-state, opening}
 use Rattle.method.specs.Shift.{onward, after}
 use Rattle.method.specs.Event.{read, verdict, Answer, accepted, next}
-use Rattle.method.specs.CalledFor.{Stands, Done, time, Right, Answers, reached, joined}
+use Rattle.method.specs.CalledFor.{Stands, Done, Calls, time, Right, Answers, reached, joined}
 use Rattle.method.specs.Search.{run, finally}
 use Rattle.method.specs.Program.{rows-after}
 use Rattle.method.specs.Ranges.{HeaderIn, KeyIn, KeysIn, Every}
@@ -131,6 +131,12 @@ NoneMissed =
     AfterAny (λ table o past told. (b : List ℕ) (cs ds : List ShiftLine) → Right (reached o past told) (read b) (accepted (cs ++ ds))
     → let s : State = after cs (reached o past told) in
     (x : Due) → Stands s x → x .second .0 ≤ time (read b) .0 → x .second .0 < o .end .0 → Answered x (s .left) ds)
+
+-- It does not matter when the clock is looked at: the shifts up to second u and then those up to t are those up to t. (rule2-whenever-looked)
+abbrev pub WheneverLooked : Type 0
+WheneverLooked =
+    (s : State) (u t : Seconds) (cs ds : List ShiftLine) → u .0 ≤ t .0 → Calls u s cs → Calls t (after cs s) ds
+    → Calls t s (cs ++ ds) × (after (cs ++ ds) s ≡ after ds (after cs s))
 
 -- A hold is what the paper says, over a shift: of every line on every side, whichever line called, "that side's pressure is judged anew from
 -- that second. The other side's holds go on, and new pressure there starts at that second." (rule2-over-a-shift)

@@ -1,8 +1,7 @@
 -- "Pressure, hold, shift" (paper 01), its second half: what a shift does to one line and to all lines.
-use mathlib.Core.Bool.{true, false}
 use mathlib.Core.List.{List, [], _∷_, map}
 use Prim.Native.Nat.{ℕ, _-_}
-use lib.IntN.{ℤ, _+ℤ_, _-ℤ_}
+use lib.IntN.{_+ℤ_, _-ℤ_}
 use Rattle.method.specs.Types.{Side, Up, Down, Steps, Seconds, Millionths, Terms, Market, Limits, Idle, Holds, Line, ShiftLine, State, steps}
 use Rattle.method.specs.Bounds.{bound}
 use Rattle.method.specs.Opening.{permits-negative, floored}

@@ -9,7 +9,7 @@ use mir.Syntax.{w64}
 use mir.Val.{SFits, ofZ}
 use mir.ValLaws.{sfits-le}
 use Rattle.numbers.specs.Rounding.{floor, ceiling}
-use Rattle.numbers.proofs.Halves.{zarith, add-is, sub-is, neg-is, mag-is, apart}
+use Rattle.numbers.proofs.Halves.{zarith, sub-is, neg-is, mag-is, apart}
 
 -- a positive divisor's bits are not 0
 pub bits-positive : (d : ℤ) → pos 0 <ℤ d → 0 < ofZ w64 d

@@ -1,7 +1,7 @@
 -- `numbers::ceiling` meets its contract. Above zero it is (n - 1) / d + 1. Assumes nothing.
 use borrow.Author.Needs.{needs}
 use mathlib.Core.Path.{_∙_}
-use lib.IntN.{ℤ, pos}
+use lib.IntN.{pos}
 use lib.Signed.{_<ℤ_, _≤ℤ_}
 use Rattle.numbers.proofs.Machine.{literal, lt-taken, lt-left}
 use Rattle.numbers.proofs.Rounded.{bits-positive, quotient-fits, ceiling-m, ceiling-q, ceiling-fits, ceiling-is, ceiling-machine}

@@ -1,7 +1,7 @@
 -- `numbers::floor` meets its contract. Below zero it is -1 - (-1 - n) / d. Assumes nothing.
 use borrow.Author.Needs.{needs}
 use mathlib.Core.Path.{_∙_}
-use lib.IntN.{ℤ, pos}
+use lib.IntN.{pos}
 use lib.Signed.{_<ℤ_, _≤ℤ_}
 use Rattle.numbers.proofs.Machine.{literal, lt-taken, lt-left}
 use Rattle.numbers.proofs.Rounded.{bits-positive, quotient-fits, floor-m, floor-q, floor-fits, floor-is, floor-machine}
