@@ -62,15 +62,22 @@ calls-answer t s (c ∷ cs) x f h r k p q =
     few : length cs ≤ onward s c .left
     few = calls-left t (onward s c) cs (judged-onward s c) (r .1)
 
+    in-time : c .second .0 ≤ x .second .0
+    in-time = not-later (due-at c (r .0 .place)) x (r .0 .ahead x k)
+
+    none-after : (ds : List ShiftLine) → length ds ≤ 0 → Every (λ d. d .second .0 ≤ x .second .0) ds
+    none-after [] l = unfold Every in tt
+    none-after (d ∷ ds) l = absurd (omega (arith, l))
+
     more : Answered x (onward s c .left) cs → Answered x (s .left) (c ∷ cs)
     more (by-shift d m e l) = by-shift d (List·Memᴰ·tail m) e l
-    more (all-made e) = all-made (omega (arith, room, one-less))
+    more (all-made e l) = all-made (omega (arith, room, one-less)) (unfold Every in (in-time, l))
 
     by-left : (n : ℕ) → onward s c .left ≡ n → (0 < onward s c .left → Answered x (onward s c .left) cs) → Answered x (s .left) (c ∷ cs)
-    by-left zero e go = all-made (omega (arith, room, one-less, few))
+    by-left zero e go = all-made (omega (arith, room, one-less, few)) (unfold Every in (in-time, none-after cs (omega (arith, few))))
     by-left (suc n) e go = more (go (omega arith))
 
     by-side : (c .side ≡ x .side) ⊎ (x .side ≡ other (c .side))
         → (x .side ≡ other (c .side) → 0 < onward s c .left → Answered x (onward s c .left) cs) → Answered x (s .left) (c ∷ cs)
-    by-side (inl e) go = by-shift c (List·Memᴰ·head refl) e (not-later (due-at c (r .0 .place)) x (r .0 .ahead x k))
+    by-side (inl e) go = by-shift c (List·Memᴰ·head refl) e in-time
     by-side (inr e) go = by-left (onward s c .left) refl (go e)

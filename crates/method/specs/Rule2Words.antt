@@ -110,10 +110,10 @@ Rising [] = Unit {0}
 Rising (c ∷ cs) = Every (Precedes c) cs × Rising cs
 
 -- ---- no hold missed
--- A hold is answered by the shift lines cs: its side was shifted at its due second or before, or all shifts that were left were made.
+-- A hold is answered by the shift lines cs: its side was shifted at its due second or before, or all shifts that were left were made by then.
 pub data Answered (x : Due) (left : ℕ) (cs : List ShiftLine) : Type 0 where
   by-shift : (c : ShiftLine) → List·Memᴰ c cs → c .side ≡ x .side → c .second .0 ≤ x .second .0 → Answered x left cs
-  all-made : length cs ≡ left → Answered x left cs
+  all-made : length cs ≡ left → Every (λ c. c .second .0 ≤ x .second .0) cs → Answered x left cs
 
 -- ---- the life of a hold
 -- "A hold starts when pressure starts, ends when it ends, and is untouched by a quote under which pressure goes on." "Once the most shifts

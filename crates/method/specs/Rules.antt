@@ -1,6 +1,7 @@
 -- Rules 1, 2 and 3 (paper 00) as statements about paper 01's definitions: all that is claimed of the method, in the rules' order and words, and
 -- no proof. Their words are in Rule1Words, Rule2Words and Rule3Words. The name in brackets is the theorem; those of a rule stand in the
--- proofs file of the rule's name.
+-- proofs file of the rule's name. That tables are accepted and shifts are made at all, so that no statement is empty, is in the starred
+-- figures (`starred-claim`).
 use mathlib.Core.Path.{_≡_}
 use mathlib.Core.Bool.{true}
 use mathlib.Core.List.{List, [], _∷_, _++_, map}
