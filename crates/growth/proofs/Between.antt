@@ -1,6 +1,6 @@
 -- The rate between two keys, as the code computes it: each step fits, and the result is a number of millionths. Assumes nothing.
-use mathlib.Core.Path.{_≡_, refl, sym, ap, _∙_, subst}
-use Prim.Native.Nat.{ℕ, _-_, _*_, _^_, _≤_, _<_}
+use mathlib.Core.Path.{_≡_, sym, ap, _∙_}
+use Prim.Native.Nat.{ℕ, _-_, _^_, _<_}
 use native.Mathlib.Omega.{arith}
 use lib.Dec.{T, lit<}
 use lib.IntN.{ℤ, pos, natAbs, _+ℤ_, _-ℤ_, _*ℤ_}
@@ -9,9 +9,9 @@ use mir.Syntax.{w32, w64}
 use mir.Val.{Fits, SFits, toZ, ofZ}
 use mir.Facts.{toZ-ofZ}
 use Rattle.numbers.specs.Rounding.{floor}
-use Rattle.numbers.specs.Ranges.{Within, Span}
+use Rattle.numbers.specs.Ranges.{Within}
 use Rattle.numbers.proofs.Halves.{zarith, apart}
-use Rattle.numbers.proofs.Ranges.{fits, within-sub, within-mul, within-pos, within-between}
+use Rattle.numbers.proofs.Ranges.{fits, within-sub, within-mul, within-pos}
 use Rattle.numbers.proofs.Machine.{cast-back, to-u64, of-u64}
 use Rattle.method.specs.Growth.{between-keys}
 use Rattle.method.proofs.Growth.{pos-minus, RateIn, between-keys-in}

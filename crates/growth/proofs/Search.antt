@@ -1,23 +1,27 @@
 -- The search over the keys: what holds while the first i of them are passed, and which rate the found line gives. Assumes nothing.
-use mathlib.Core.Path.{_≡_, refl, sym, ap, _∙_, subst}
+use mathlib.Core.Path.{_≡_, refl, sym, ap, _∙_}
 use mathlib.Core.Bool.{Bool, true, false, cond}
 use mathlib.Core.List.{List, [], _∷_}
-use Prim.Native.Nat.{ℕ, zero, suc, _+_, _-_, _≤_, _<_}
+use Prim.Native.Nat.{ℕ, zero, suc, _+_, _≤_, _<_}
 use native.Mathlib.Numerals.{add-one}
 use native.Mathlib.Omega.{arith}
 use borrow.Author.Tests.{le-leb, lt-leb, leb-true, leb-false}
 use lib.Dec.{leb}
 use lib.IntN.{ℤ, pos}
-use lib.ListN.{length, getD, take, drop}
-use lib.Seq.{drop-cons, drop-length, getD-take, length-take-le}
+use lib.ListN.{length, getD, drop}
+use lib.Seq.{drop-cons, drop-length}
 use Rattle.method.specs.Growth.{between-keys, rate-from, rate-by-keys}
-use Rattle.method.specs.Ranges.{KeyIn, KeysIn}
+use Rattle.method.specs.Ranges.{KeysIn}
 use Rattle.growth.specs.Names.{Key}
 use Rattle.growth.specs.Found.{found-line}
 
 -- what is read past the last key
 abbrev pub no-key : Key
 no-key = record { days = 0; rate = record { 0 = 0 } }
+
+-- an empty list has no place
+no-place : {n : ℕ} → n < 0 → ⊥
+no-place h = omega arith
 
 -- ---- the loop: the line lies as far on as the first i keys, and then as the rest says
 abbrev pub Passed : List Key → ℕ → ℕ → Type 0
@@ -89,10 +93,7 @@ from-last l (k ∷ keys) days e =
 from-between : (l : Key) (keys : List Key) (days n : ℕ) → l .days < days → found-line days keys ≡ n → n < length keys
     → Between days (getD (l ∷ keys) n no-key) (getD keys n no-key) (rate-from l keys days)
 unfolding rate-from
-from-between l [] days n g e h = absurd (never h)
-  where
-    never : n < 0 → ⊥
-    never h = omega arith
+from-between l [] days n g e h = absurd (no-place h)
 from-between l (k ∷ keys) days zero g e h =
     let q = found-here days k keys e in
     record { rate-is = rw (le-leb days (k .days) q); from = g; to = q }
@@ -102,18 +103,12 @@ from-between l (k ∷ keys) days (suc n) g e h =
 
 pub first-rate : (keys : List Key) (days : ℕ) → 0 < length keys → found-line days keys ≡ 0 → rate-by-keys keys days ≡ pos (getD keys 0 no-key .rate .0)
 unfolding rate-by-keys
-first-rate [] days h e = absurd (never h)
-  where
-    never : 0 < 0 → ⊥
-    never h = omega arith
+first-rate [] days h e = absurd (no-place h)
 first-rate (k ∷ keys) days h e = rw (le-leb days (k .days) (found-here days k keys e))
 
 pub last-rate : (keys : List Key) (days n : ℕ) → found-line days keys ≡ suc n → suc n ≡ length keys → rate-by-keys keys days ≡ pos (getD keys n no-key .rate .0)
 unfolding rate-by-keys
-last-rate [] days n e h = absurd (never h)
-  where
-    never : suc n ≡ 0 → ⊥
-    never h = omega arith
+last-rate [] days n e h = absurd (no-place {n = n} (omega (arith, h)))
 last-rate (k ∷ keys) days n e h =
     let p = found-later days k keys n e in
     let last : n ≡ length keys = omega arith in
@@ -123,10 +118,7 @@ last-rate (k ∷ keys) days n e h =
 pub between-rate : (keys : List Key) (days n : ℕ) → found-line days keys ≡ suc n → suc n < length keys
     → Between days (getD keys n no-key) (getD keys (suc n) no-key) (rate-by-keys keys days)
 unfolding rate-by-keys
-between-rate [] days n e h = absurd (never h)
-  where
-    never : suc n < 0 → ⊥
-    never h = omega arith
+between-rate [] days n e h = absurd (no-place h)
 between-rate (k ∷ keys) days n e h =
     let p = found-later days k keys n e in
     rw (lt-leb days (k .days) (p .0)) (from-between k keys days n (p .0) (p .1) (omega arith))
@@ -134,9 +126,6 @@ between-rate (k ∷ keys) days n e h =
 -- ---- every key is in its range
 pub key-at : (before : ℕ) (keys : List Key) (i : ℕ) → KeysIn before keys → i < length keys → (getD keys i no-key .rate .0 ≤ 1_000_000) × (getD keys i no-key .days ≤ 3_650)
 unfolding KeysIn
-key-at before [] i r h = absurd (never h)
-  where
-    never : i < 0 → ⊥
-    never h = omega arith
+key-at before [] i r h = absurd (no-place h)
 key-at before (k ∷ keys) zero r h = (r .0 .rate, r .0 .days .most)
 key-at before (k ∷ keys) (suc i) r h = key-at (k .days) keys i (r .1) (omega arith)

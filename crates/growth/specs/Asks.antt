@@ -1,7 +1,7 @@
 -- What the functions of this crate ask, and their callers show.
 use mathlib.Core.List.{List}
 use Prim.Native.Nat.{ℕ, _≤_, _<_}
-use lib.ListN.{take, length}
+use lib.ListN.{take}
 use Rattle.numbers.specs.Ranges.{Between}
 use Rattle.method.specs.Ranges.{KeysIn}
 use Rattle.growth.specs.Names.{Key}

@@ -1,8 +1,8 @@
 -- `growth::found_line` meets its contract. Assumes nothing.
 use mathlib.Core.Path.{_≡_, sym, _∙_}
-use Prim.Native.Nat.{ℕ, _-_, _≤_, _<_}
+use Prim.Native.Nat.{_-_, _≤_, _<_}
 use native.Mathlib.Omega.{arith}
-use lib.ListN.{length, take, getD}
+use lib.ListN.{length, take}
 use lib.Seq.{getD-take, length-take-le}
 use Rattle.numbers.proofs.Arrays.{full}
 use Rattle.growth.proofs.Search.{no-key, Passed, passed-none, passed-turn, passed-found, passed-all}
