@@ -19,7 +19,8 @@ use Rattle.method.specs.Opening.{normal-price, corridor-half}
 use Rattle.method.specs.Ranges.{ContractIn}
 use Rattle.method.proofs.Opening.{normal-in}
 use Rattle.method.proofs.Rooms.{span-within}
-use Rattle.line.specs.Names.{Up, Down, Millionths, Contract, Terms, Market, Limits, steps}
+use Rattle.line.specs.Names.{Up, Down, Millionths, Contract, Terms, Market, Limits}
+use Rattle.method.specs.Types.{steps}
 use Rattle.line.specs.Asks.{Spanned}
 use Rattle.line.proofs.Drawing.{drawn-within}
 

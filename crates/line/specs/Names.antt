@@ -1,5 +1,4 @@
 -- The data of `numbers` and `method` that this crate names.
-use lib.IntN.{ℤ}
 pub use Rattle.numbers.specs.declared.Steps.{Steps}
 pub use Rattle.numbers.specs.declared.Millionths.{Millionths}
 pub use Rattle.numbers.specs.declared.Seconds.{Seconds}
@@ -21,6 +20,7 @@ pub use Rattle.method.specs.declared.Holds.{Holds}
 pub use Rattle.method.specs.declared.Line.{Line}
 pub use Rattle.method.specs.declared.LineAnswer.{LineAnswer}
 pub use Rattle.method.specs.declared.TableReason.{TableReason}
-
-abbrev pub steps : ℤ → Steps
-steps z = record { 0 = z }
+pub use Rattle.method.specs.declared.Quote.{Quote}
+pub use Rattle.method.specs.declared.Due.{Due}
+pub use Rattle.method.specs.declared.Found.{Found}
+pub use Rattle.method.specs.declared.Found.the-variants.{Nothing, At}

@@ -1,4 +1,4 @@
-// The floor of one step.
+// The floor of one step under a lower limit, at opening and at every shift down.
 
 ghost use mathlib.Core.Path.{_≡_};
 ghost use Rattle.method.specs.Opening.{floored};
@@ -13,11 +13,10 @@ pub fn floored(permitted: bool, k: Limits) -> Limits
         return k;
     }
     if k.lower.0 < 1 {
-        let upper = k.upper;
         return Limits {
-            upper: upper,
             lower: Steps(1),
             frozen: true,
+            ..k
         };
     }
     k

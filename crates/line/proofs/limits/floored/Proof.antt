@@ -9,7 +9,7 @@ use Rattle.method.specs.Opening.{floored}
 use Rattle.line.proofs.limits.floored.Statement.{statement}
 use Rattle.line.proofs.limits.floored.Tie as tie
 
-low : (c : tie.Then2) → ltZ (c .before .before .before .before .args .k .lower .0) (pos 1) ≡ true
+low : (c : tie.After-t5) → ltZ (c .before .before .before .before .before .args .k .lower .0) (pos 1) ≡ true
 low c = search (needs, tests)
 
 high : (c : tie.Else2) → ltZ (c .before .before .before .before .args .k .lower .0) (pos 1) ≡ false
@@ -21,7 +21,7 @@ returns c = rw (c .if1 .taken)
 
 returns-2 : tie.Need-returns-2
 unfolding floored
-returns-2 c = rw (c .before .before .before .before .if1 .left, low (c .before))
+returns-2 c = rw (c .before .before .before .before .if1 .left, low c)
 
 returns-3 : tie.Need-returns-3
 unfolding floored

@@ -2,7 +2,7 @@
 use borrow.Author.Needs.{needs}
 use mathlib.Core.Path.{_∙_, ap}
 use Rattle.method.specs.Opening.{half-move}
-use Rattle.line.specs.Names.{steps}
+use Rattle.method.specs.Types.{steps}
 use Rattle.line.proofs.Opened.{moves}
 use Rattle.line.proofs.opening.half_move.Statement.{statement}
 use Rattle.line.proofs.opening.half_move.Tie as tie

@@ -2,7 +2,7 @@
 use borrow.Author.Needs.{needs}
 use mathlib.Core.Path.{_∙_, ap}
 use Rattle.method.specs.Opening.{half-width}
-use Rattle.line.specs.Names.{steps}
+use Rattle.method.specs.Types.{steps}
 use Rattle.line.proofs.Opened.{width-fits, width-is}
 use Rattle.line.proofs.opening.half_width.Statement.{statement}
 use Rattle.line.proofs.opening.half_width.Tie as tie

@@ -1,0 +1,101 @@
+// The search for the hold that goes first, one line at a time.
+
+ghost use mathlib.Core.Path.{_≡_};
+ghost use Prim.Native.Nat.{_≤_};
+ghost use Rattle.method.specs.Search.{due-of, ahead, sooner, passed, in-time};
+ghost use Rattle.method.specs.Ranges.{HoldIn, HoldsIn};
+use method::Due;
+use method::Found;
+use method::Hold;
+use method::Holds;
+use method::Side;
+use numbers::Seconds;
+
+// When a hold falls due.
+fn due_of(side: Side, wait: Seconds, place: usize, h: Hold) -> Found
+    requires { ⌜ HoldIn h × (wait .0 ≤ 3_600) ⌝ }
+    ensures { λ r. ⌜ r ≡ due-of side wait place h ⌝ }
+{
+    match h {
+        Hold::Idle => Found::Nothing,
+        Hold::Since(start) => Found::At(Due {
+            second: Seconds(start.0 + wait.0),
+            side: side,
+            place: place,
+        }),
+    }
+}
+
+// Whether x goes before y, which stands at no later place: by its second, and at one second up before down.
+fn ahead(x: Due, y: Due) -> bool
+    ensures { λ r. ⌜ r ≡ ahead x y ⌝ }
+{
+    let a = x.second.0;
+    let b = y.second.0;
+    if a < b {
+        return true;
+    }
+    if b < a {
+        return false;
+    }
+    let s = x.side;
+    let other = y.side;
+    match s {
+        Side::Up => match other {
+            Side::Up => false,
+            Side::Down => true,
+        },
+        Side::Down => false,
+    }
+}
+
+// The best so far, unless d goes before it.
+fn sooner(best: Found, d: Found) -> Found
+    ensures { λ r. ⌜ r ≡ sooner best d ⌝ }
+{
+    match best {
+        Found::Nothing => d,
+        Found::At(y) => match d {
+            Found::Nothing => best,
+            Found::At(x) => {
+                if ahead(x, y) {
+                    return d;
+                }
+                best
+            }
+        },
+    }
+}
+
+// One more line passed.
+pub fn passed(wait: Seconds, place: usize, h: Holds, best: Found) -> Found
+    requires { ⌜ HoldsIn h × (wait .0 ≤ 3_600) ⌝ }
+    ensures { λ r. ⌜ r ≡ passed wait place h best ⌝ }
+{
+    let up = h.up;
+    let down = h.down;
+    let first = sooner(best, due_of(Side::Up, wait, place, up));
+    sooner(first, due_of(Side::Down, wait, place, down))
+}
+
+// What is due at t, before session end, while shifts are left.
+pub fn in_time(t: Seconds, end: Seconds, left: u32, d: Found) -> Found
+    ensures { λ r. ⌜ r ≡ in-time t end left d ⌝ }
+{
+    match d {
+        Found::Nothing => Found::Nothing,
+        Found::At(x) => {
+            let second = x.second.0;
+            if t.0 < second {
+                return Found::Nothing;
+            }
+            if end.0 <= second {
+                return Found::Nothing;
+            }
+            if left == 0 {
+                return Found::Nothing;
+            }
+            d
+        }
+    }
+}
