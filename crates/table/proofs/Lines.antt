@@ -9,7 +9,8 @@ use Rattle.numbers.specs.Arrays.{padded}
 use Rattle.numbers.proofs.Arrays.{padded-set, padded-take}
 use Rattle.method.specs.Opening.{open-line}
 use Rattle.method.specs.Table.{contract-at, contracts-at, Opening, opened, refused, opening-state, open-lines}
-use Rattle.table.specs.Names.{Header, Key, Contract, Line, LineAnswer, TableAnswer, TableReason, blank}
+use Rattle.method.specs.Types.{blank}
+use Rattle.table.specs.Names.{Header, Key, Contract, Line, LineAnswer, TableAnswer, TableReason}
 use Rattle.table.specs.declared.Opened.{Opened}
 use Rattle.table.specs.Opened.{opened-as}
 

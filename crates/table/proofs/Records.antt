@@ -14,7 +14,8 @@ use Rattle.numbers.specs.Arrays.{padded}
 use Rattle.numbers.proofs.Arrays.{padded-set, passing, all-passed}
 use Rattle.method.specs.Opening.{known, id-good}
 use Rattle.method.specs.Table.{key-at, keys-at, contract-at, contracts-at, key-good, bad-key}
-use Rattle.table.specs.Names.{Key, Contract, Line, no-key, blank}
+use Rattle.method.specs.Types.{blank}
+use Rattle.table.specs.Names.{Key, Contract, Line, no-key}
 use Rattle.table.specs.Opened.{line-or-zero}
 
 -- ---- the keys are read one after another

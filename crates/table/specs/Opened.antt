@@ -1,11 +1,12 @@
 -- What the code hands back for the method's answer to a table: the answer, and beside it the opened lines in 32 places and the header's
--- numbers. Where the table is refused, blank ones stand beside the answer.
+-- numbers. Where the table is refused, no lines, end 0, no shifts, and the least hold and near share stand beside the answer.
 use mathlib.Core.Option.{Option, none, some}
 use Prim.Native.Nat.{ℕ}
 use lib.ListN.{length, replicate}
 use Rattle.numbers.specs.Arrays.{padded}
 use Rattle.method.specs.Table.{Opening, opened, refused}
-use Rattle.table.specs.Names.{TableAnswer, blank}
+use Rattle.method.specs.Types.{blank}
+use Rattle.table.specs.Names.{TableAnswer}
 use Rattle.table.specs.declared.Opened.{Opened}
 
 abbrev pub line-or-zero : Option ℕ → ℕ
@@ -29,7 +30,7 @@ opened-as (refused why line) =
       lines = replicate 32 blank;
       count = 0;
       end = record { 0 = 0 };
-      hold = record { 0 = 0 };
+      hold = record { 0 = 1 };
       most = 0;
-      near = record { 0 = 0 };
+      near = record { 0 = 1 };
     }

@@ -258,7 +258,8 @@ fn open_line(
 
 // ---- the whole table
 
-// The answer, and beside it, where a session is opened, its lines and the header's numbers; where it is refused, blank ones.
+// The answer, and beside it, where a session is opened, its lines and the header's numbers; where it is refused, no lines, end 0, no
+// shifts, and the least hold and near share.
 pub struct Opened {
     pub answer: TableAnswer,
     pub lines: [Line; 32],
@@ -277,9 +278,9 @@ fn refused(why: TableReason, line: u32) -> Opened
         lines: [BLANK; 32],
         count: 0,
         end: Seconds(0),
-        hold: Seconds(0),
+        hold: Seconds(1),
         most: 0,
-        near: Millionths(0),
+        near: Millionths(1),
     }
 }
 

@@ -1,0 +1,51 @@
+-- The session that a table opens is the method's state, written over a session with no lines. Assumes nothing.
+use mathlib.Core.Path.{_≡_, refl, ap, sym, _∙_}
+use mathlib.Core.List.{List, [], _∷_, _++_}
+use Prim.Native.Nat.{ℕ, zero, suc, _-_}
+use native.Mathlib.Omega.{arith}
+use lib.ListN.{length, drop, replicate}
+use Rattle.numbers.specs.Arrays.{padded}
+use Rattle.method.specs.Types.{State, blank, seconds}
+use Rattle.method.specs.Table.{Opening, opened, refused, opening}
+use Rattle.method.proofs.Table.{accepted-table}
+use Rattle.table.specs.declared.Opened.{Opened as Table}
+use Rattle.table.specs.Opened.{opened-as}
+use Rattle.corridor.specs.Names.{Line, TableAnswer}
+use Rattle.corridor.specs.declared.Session.{Session}
+use Rattle.corridor.specs.declared.Opened.{Opened}
+use Rattle.corridor.specs.View.{put, no-session, opened-session}
+
+drop-replicate : {A : Type 0} (n m : ℕ) (d : A) → drop n (replicate m d) ≡ replicate (m - n) d
+drop-replicate zero m d = let e : m ≡ m - 0 = omega arith in ap (λ (k : ℕ). replicate k d) e
+drop-replicate (suc n) zero d = let e : 0 ≡ 0 - suc n = omega arith in ap (λ (k : ℕ). replicate k d) e
+drop-replicate (suc n) (suc m) d = let e : m - n ≡ suc m - suc n = omega arith in drop-replicate n m d ∙ ap (λ (k : ℕ). replicate k d) e
+
+-- what `open` makes of a table's answer
+abbrev session-from : Table → Opened
+session-from o =
+    record {
+      answer = o .answer;
+      session =
+          record { lines = o .lines; count = o .count; clock = seconds 0; end = o .end; hold = o .hold; left = o .most; near = o .near };
+    }
+
+pub opens : (b : List ℕ) (o : Table) → o ≡ opened-as (opening b) → session-from o ≡ opened-session (opening b)
+opens b o e = ap session-from e ∙ go (opening b) (λ s q. accepted-table b s q .state .clock)
+  where
+    go : (x : Opening) → ((s : State) → x ≡ opened s → s .clock ≡ seconds 0) → session-from (opened-as x) ≡ opened-session x
+    go (opened s) h =
+        unfold opened-as opened-session in
+        λ i. record {
+          answer = TableAnswer.Opened;
+          session =
+              record {
+                lines = s .lines ++ sym (drop-replicate (length (s .lines)) 32 blank) i;
+                count = length (s .lines);
+                clock = sym (h s refl) i;
+                end = s .end;
+                hold = s .hold;
+                left = s .left;
+                near = s .near;
+              };
+        }
+    go (refused why line) h = unfold opened-as opened-session in refl

@@ -1,0 +1,49 @@
+-- `view` and `put`: a state that is written is read back, and a session that is read and written is as it was. Assumes nothing.
+use mathlib.Core.Path.{_≡_, refl, ap, sym, _∙_}
+use mathlib.Core.List.{List, _++_}
+use Prim.Native.Nat.{ℕ, _-_, _≤_}
+use native.Mathlib.Omega.{arith}
+use lib.ListN.{length, take, drop, length-append, length-drop, take-append-drop}
+use lib.Seq.{take-append-seam, drop-append-seam, length-take-le}
+use Rattle.method.specs.Types.{State}
+use Rattle.method.specs.Ranges.{Sane}
+use Rattle.method.specs.Sound.{Sound}
+use Rattle.corridor.specs.Names.{Line}
+use Rattle.corridor.specs.declared.Session.{Session}
+use Rattle.corridor.specs.View.{view, put, Valid}
+
+-- the state, and the session, with other lines
+abbrev lines-of : State → List Line → State
+lines-of x ls = record { lines = ls; clock = x .clock; end = x .end; hold = x .hold; left = x .left; near = x .near }
+
+abbrev rows : State → ℕ → List Line → Session
+rows x n ls = record { lines = ls; count = n; clock = x .clock; end = x .end; hold = x .hold; left = x .left; near = x .near }
+
+pub view-put : (s : Session) (x : State) → view (put s x) ≡ x
+view-put s x = ap (lines-of x) (take-append-seam (x .lines) (drop (length (x .lines)) (s .lines)))
+
+pub put-put : (s : Session) (x y : State) → length (y .lines) ≡ length (x .lines) → put (put s x) y ≡ put s y
+put-put s x y e =
+    ap (λ (zs : List Line). rows y (length (y .lines)) (y .lines ++ zs))
+    (ap (λ (n : ℕ). drop n (x .lines ++ drop (length (x .lines)) (s .lines))) e ∙ drop-append-seam (x .lines) (drop (length (x .lines)) (s .lines))
+    ∙ ap (λ (n : ℕ). drop n (s .lines)) (sym e))
+
+pub view-length : {s : Session} → Valid s → length (view s .lines) ≡ s .count
+view-length {s} v = length-take-le (s .count) (s .lines) (omega (arith, v .few, v .full))
+
+pub put-view : {s : Session} → Valid s → put s (view s) ≡ s
+put-view {s} v =
+    ap (λ (n : ℕ). rows (view s) n (take (s .count) (s .lines) ++ drop n (s .lines))) (view-length v)
+    ∙ ap (rows (view s) (s .count)) (take-append-drop (s .count) (s .lines))
+
+pub valid-put : (s : Session) (x : State) → length (s .lines) ≡ 32 → length (x .lines) ≤ 32 → Sane x → Sound x → Valid (put s x)
+valid-put s x full few w o =
+    record {
+      full = omega (arith, length-append (x .lines) (drop (length (x .lines)) (s .lines)), open-places);
+      few = few;
+      sane = rw (view-put s x) w;
+      sound = rw (view-put s x) o;
+    }
+  where
+    open-places : length (drop (length (x .lines)) (s .lines)) ≡ 32 - length (x .lines)
+    open-places = length-drop (length (x .lines)) (s .lines) ∙ ap (λ (n : ℕ). n - length (x .lines)) full

@@ -1,0 +1,47 @@
+-- A session is an array of 32 rows with a count; the method speaks of a list of exactly the table's lines. `view` reads the one as the
+-- other, `put` writes a state back, and the contracts of this crate are equations through them.
+use mathlib.Core.Path.{_≡_}
+use mathlib.Core.List.{List, _++_}
+use Prim.Native.Nat.{ℕ, _≤_}
+use lib.ListN.{length, take, drop, replicate}
+use Rattle.method.specs.Types.{State, blank, seconds, millionths}
+use Rattle.method.specs.Table.{Opening, opened, refused}
+use Rattle.method.specs.Ranges.{Sane}
+use Rattle.method.specs.Sound.{Sound}
+use Rattle.corridor.specs.Names.{TableAnswer}
+use Rattle.corridor.specs.declared.Session.{Session}
+use Rattle.corridor.specs.declared.Opened.{Opened}
+
+-- the first `count` rows, as the method's lines
+abbrev pub view : Session → State
+view s = record { lines = take (s .count) (s .lines); clock = s .clock; end = s .end; hold = s .hold; left = s .left; near = s .near }
+
+-- a state's lines written over the first places, and all places after them as they were
+abbrev pub put : Session → State → Session
+put s x =
+    record {
+      lines = x .lines ++ drop (length (x .lines)) (s .lines);
+      count = length (x .lines);
+      clock = x .clock;
+      end = x .end;
+      hold = x .hold;
+      left = x .left;
+      near = x .near;
+    }
+
+-- the session that stands beside a refusal
+abbrev pub no-session : Session
+no-session =
+    record { lines = replicate 32 blank; count = 0; clock = seconds 0; end = seconds 0; hold = seconds 1; left = 0; near = millionths 1 }
+
+unfoldable pub opened-session : Opening → Opened
+opened-session (opened x) = record { answer = TableAnswer.Opened; session = put no-session x }
+opened-session (refused why line) = record { answer = TableAnswer.Refused why line; session = no-session }
+
+-- What a method of a session asks, and every session has: the array's length, the ranges of its numbers, and that holds stand exactly
+-- where there is pressure and none is left to serve up to the clock.
+pub record Valid (s : Session) : Type 0 where
+  pub full : length (s .lines) ≡ 32
+  pub few : s .count ≤ 32
+  pub sane : Sane (view s)
+  pub sound : Sound (view s)

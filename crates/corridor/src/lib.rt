@@ -1,0 +1,51 @@
+// A session: opened from a morning table, it takes timed events and answers with shifts.
+
+ghost use mathlib.Core.Path.{_≡_};
+ghost use Rattle.method.specs.Table.{opening};
+ghost use Rattle.corridor.specs.View.{opened-session};
+use method::Line;
+use method::TableAnswer;
+use numbers::Millionths;
+use numbers::Seconds;
+
+// The table's lines stand in the first `count` places, in its order. `left` is how many shifts may still be made.
+pub struct Session {
+    pub lines: [Line; 32],
+    pub count: usize,
+    pub clock: Seconds,
+    pub end: Seconds,
+    pub hold: Seconds,
+    pub left: u32,
+    pub near: Millionths,
+}
+
+// The answer to a table, and beside it the session. A refused table opens nothing: the session that stands beside it has no lines, ends
+// at 0 and makes no shift.
+pub struct Opened {
+    pub answer: TableAnswer,
+    pub session: Session,
+}
+
+// Opens a session from the bytes of a morning table.
+pub fn open(bytes: &[u8]) -> Opened
+    ensures { λ r. ⌜ r ≡ opened-session (opening (now (bytes .entry))) ⌝ }
+{
+    let o = table::open(bytes);
+    let answer = o.answer;
+    let lines = o.lines;
+    let end = o.end;
+    let hold = o.hold;
+    let near = o.near;
+    Opened {
+        answer: answer,
+        session: Session {
+            lines: lines,
+            count: o.count,
+            clock: Seconds(0),
+            end: end,
+            hold: hold,
+            left: o.most,
+            near: near,
+        },
+    }
+}
