@@ -215,14 +215,14 @@ fn id_good(lines: [Line; 32], count: usize, id: u32) -> bool
     if id == 0 {
         return false;
     }
-    let mut i: usize = 0;
-    while i < count {
-        let l = lines[i];
+    let mut place: usize = 0;
+    while place < count {
+        let l = lines[place];
         let t = l.terms;
         if t.id == id {
             return false;
         }
-        i = i + 1;
+        place = place + 1;
     }
     true
 }

@@ -11,10 +11,10 @@ use Rattle.table.proofs.id_good.Statement.{statement}
 use Rattle.table.proofs.id_good.Tie as tie
 
 abbrev Inv-loop : tie.InvT-loop
-Inv-loop count id lines i₀ i = (i ≤ count) × Unmet count lines id i
+Inv-loop count id lines place₀ place = (place ≤ count) × Unmet count lines id place
 
 abbrev μ-loop : tie.MeasureT-loop
-μ-loop count id lines i₀ i = count - i
+μ-loop count id lines place₀ place = count - place
 
 returns : tie.Need-returns Inv-loop μ-loop
 unfolding id-good
@@ -34,10 +34,10 @@ returns-2 c =
     let s = c .before .before .before .before .before .before .before in
     let at = c .before .before .before .before .before .loop in
     let len : length (s .args .t1) ≡ 32 = search (full, s .good) in
-    unmet-met (s .args .count) (s .args .t1) (s .args .id) (at .i) (at .inv .1) (omega arith) (omega arith) (c .if2 .taken)
+    unmet-met (s .args .count) (s .args .t1) (s .args .id) (at .place) (at .inv .1) (omega arith) (omega arith) (c .if2 .taken)
 
-add-i : tie.Need-add-i Inv-loop μ-loop
-add-i c = omega arith
+add-place : tie.Need-add-place Inv-loop μ-loop
+add-place c = omega arith
 
 loop-less : tie.Need-loop-less Inv-loop μ-loop
 loop-less c = omega arith
@@ -47,14 +47,14 @@ loop-again c =
     let s = c .before .before .before .before .before .before .before in
     let at = c .before .before .before .before .before .loop in
     let len : length (s .args .t1) ≡ 32 = search (full, s .good) in
-    (omega arith, unmet-turn (s .args .count) (s .args .t1) (s .args .id) (at .i) (at .inv .1) (omega arith) (omega arith) (c .if2 .left))
+    (omega arith, unmet-turn (s .args .count) (s .args .t1) (s .args .id) (at .place) (at .inv .1) (omega arith) (omega arith) (c .if2 .left))
 
 returns-3 : tie.Need-returns-3 Inv-loop μ-loop
 returns-3 c =
     let s = c .before .before .before in
     let at = c .before .loop in
     let len : length (s .args .t1) ≡ 32 = search (full, s .good) in
-    unmet-all (s .args .count) (s .args .t1) (s .args .id) (at .i) (at .inv .1) (omega arith) (omega arith) (omega (arith, c .before .before .if1 .left))
+    unmet-all (s .args .count) (s .args .t1) (s .args .id) (at .place) (at .inv .1) (omega arith) (omega arith) (omega (arith, c .before .before .if1 .left))
 
 pub id-good-spec : {M : Type 1} → statement M
 id-good-spec =
@@ -67,7 +67,7 @@ id-good-spec =
     mul-l
     array-copy-out-l
     returns-2
-    add-i
+    add-place
     loop-less
     loop-again
     returns-3)
