@@ -1,6 +1,2 @@
 pub mod Drawing
 pub mod Opened
-pub mod Pressing
-pub mod Moving
-pub mod Finding
-pub mod Rooms

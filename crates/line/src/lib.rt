@@ -1,8 +1,5 @@
-// One contract: its opening numbers, its interest bounds, and what pressure, a shift and a quote do to it.
+// One contract as it opens: its interest bounds, its corridor and its numbers.
 
 pub mod bounds;
-pub mod due;
 pub mod limits;
 pub mod opening;
-pub mod pressure;
-pub mod shift;

@@ -1,0 +1,4 @@
+pub mod Pressing
+pub mod Moving
+pub mod Finding
+pub mod Rooms

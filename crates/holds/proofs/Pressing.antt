@@ -1,0 +1,49 @@
+-- What the steps of the near test come to fits an `i64`, from what they ask. Assumes nothing.
+use mathlib.Core.Path.{_≡_, subst}
+use Prim.Native.Nat.{ℕ, _<_, _^_}
+use native.Mathlib.Omega.{arith}
+use lib.Dec.{lit<, lit≤}
+use lib.IntN.{ℤ, pos, _-ℤ_, _*ℤ_}
+use mir.Syntax.{w64}
+use mir.Val.{SFits}
+use Rattle.numbers.specs.Ranges.{Within}
+use Rattle.numbers.proofs.Ranges.{fits, within-more, within-sub, within-mul, within-pos, within-lit}
+use Rattle.numbers.proofs.Machine.{cast-back}
+use Rattle.method.specs.Pressure.{price}
+use Rattle.method.specs.Ranges.{PriceIn, BookIn}
+use Rattle.holds.specs.Names.{Side, Up, Down, Steps, Millionths, Limits, Price, Given, Book}
+use Rattle.holds.specs.Asks.{Apart, Tested}
+
+module _ {near : ℕ} {k : Limits} {a b : ℤ} (q : Apart near k a b) where
+  pub distance-fits : SFits w64 (a -ℤ b)
+  distance-fits = fits (within-sub (q .from) (q .to)) (lit< tt)
+
+  pub width-fits : SFits w64 (k .upper .0 -ℤ k .lower .0)
+  width-fits = fits (within-sub (q .limits .upper) (q .limits .lower)) (lit< tt)
+
+  pub distance-product : SFits w64 ((a -ℤ b) *ℤ pos 1_000_000)
+  distance-product = fits (within-mul (within-sub (q .from) (q .to)) (within-lit 1_000_000)) (lit< tt)
+
+  pub width-product : SFits w64 (pos near *ℤ (k .upper .0 -ℤ k .lower .0))
+  width-product = fits (within-mul (within-pos (q .share)) (within-sub (q .limits .upper) (q .limits .lower))) (lit< tt)
+
+  pub share-fits : near < 2 ^ 63
+  share-fits = omega (arith, q .share)
+
+pub ruleset distances = (distance-fits, width-fits, distance-product, width-product, share-fits, cast-back)
+
+-- ---- a price that is given
+given-in : {x : Price} {p : Steps} → x ≡ Given p → PriceIn x → Within 2_970_000_000 (p .0)
+unfolding PriceIn
+given-in {x} {p} e h = within-more (subst PriceIn e h) (lit≤ tt)
+
+module _ {near : Millionths} {k : Limits} {x : Price} (q : Tested near k x) {p : Steps} (e : x ≡ Given p) where
+  pub tested-up : Apart (near .0) k (k .upper .0) (p .0)
+  tested-up = record { share = q .share; limits = q .limits; from = q .limits .upper; to = given-in e (q .price) }
+
+  pub tested-down : Apart (near .0) k (p .0) (k .lower .0)
+  tested-down = record { share = q .share; limits = q .limits; from = given-in e (q .price); to = q .limits .lower }
+
+pub price-in : (side : Side) {b : Book} → BookIn b → PriceIn (price side b)
+price-in Up q = q .bid
+price-in Down q = q .ask

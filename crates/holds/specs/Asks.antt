@@ -1,0 +1,77 @@
+-- What the functions of this crate ask, and their callers show.
+use Prim.Native.Nat.{ℕ, suc, _≤_}
+use lib.IntN.{ℤ, _+ℤ_, _-ℤ_}
+use Rattle.numbers.specs.Ranges.{Within}
+use Rattle.method.specs.Types.{steps}
+use Rattle.method.specs.Ranges.{FactorsIn, PriceIn, BookIn, Room}
+use Rattle.line.specs.Asks.{Drawn}
+use Rattle.holds.specs.Names.{Terms, Market, Millionths, Limits, Price, Line}
+
+-- ---- pressure
+pub record LimitsWithin (k : Limits) : Type 0 where
+  pub upper : Within 2_970_000_000 (k .upper .0)
+  pub lower : Within 2_970_000_000 (k .lower .0)
+
+-- what the near test asks of a distance a - b
+pub record Apart (near : ℕ) (k : Limits) (a b : ℤ) : Type 0 where
+  pub share : near ≤ 500_000
+  pub limits : LimitsWithin k
+  pub from : Within 2_970_000_000 a
+  pub to : Within 2_970_000_000 b
+
+-- what a price's test asks
+pub record Tested (near : Millionths) (k : Limits) (p : Price) : Type 0 where
+  pub share : near .0 ≤ 500_000
+  pub limits : LimitsWithin k
+  pub price : PriceIn p
+
+-- what the pressure of a line asks
+pub record Pressed (near : Millionths) (l : Line) : Type 0 where
+  pub share : near .0 ≤ 500_000
+  pub limits : LimitsWithin (l .limits)
+  pub book : BookIn (l .book)
+
+-- ---- a shift
+-- what a market asks that is moved
+pub record Movable (by : ℤ) (m : Market) : Type 0 where
+  pub small : Within 50_000_000 by
+  pub centre : Within 850_000_000 (m .centre .0)
+  pub half1 : Within 850_000_000 (m .half1 .0)
+  pub half2 : Within 850_000_000 (m .half2 .0)
+  pub half3 : Within 850_000_000 (m .half3 .0)
+
+-- what a limit asks that goes with its bound from a to b, and what becomes of the limits
+pub record Carried (k : Limits) (a b : ℤ) : Type 0 where
+  pub limits : LimitsWithin k
+  pub from : Within 2_970_000_000 a
+  pub to : Within 2_970_000_000 b
+
+abbrev pub with-upper : Limits → ℤ → Limits
+with-upper k z = record { upper = steps z; lower = k .lower; frozen = k .frozen }
+
+abbrev pub with-lower : Limits → ℤ → Limits
+with-lower k z = record { upper = k .upper; lower = steps z; frozen = k .frozen }
+
+abbrev pub raised-by : Limits → ℤ → ℤ → Limits
+raised-by k a b = with-upper k (k .upper .0 +ℤ (b -ℤ a))
+
+abbrev pub lowered-by : Limits → ℤ → ℤ → Limits
+lowered-by k a b = with-lower k (k .lower .0 -ℤ (a -ℤ b))
+
+-- what limits ask that are redrawn from market m to market n
+pub record Redrawable (t : Terms) (m n : Market) (k : Limits) : Type 0 where
+  pub from : Drawn t m
+  pub to : Drawn t n
+  pub limits : LimitsWithin k
+
+-- what a line asks that is moved
+pub record Shiftable (l : Line) : Type 0 where
+  pub market : Movable (l .terms .halfmove .0) (l .market)
+  pub factors : FactorsIn (l .terms)
+  pub limits : LimitsWithin (l .limits)
+
+-- What a shift asks that leaves `left`. It asks for the whole room: that limits stay in range is a matter of their bounds.
+pub record Shifts (near : Millionths) (left : ℕ) (l : Line) : Type 0 where
+  pub room : Room (suc left) l
+  pub few : left ≤ 15
+  pub share : near .0 ≤ 500_000
