@@ -8,6 +8,7 @@ pub mod Table
 pub mod Pressure
 pub mod Shift
 pub mod Event
+pub mod Report
 pub mod CalledFor
 pub mod Search
 pub mod Program

@@ -39,6 +39,12 @@ pub use Rattle.method.specs.declared.EventAnswer.{EventAnswer}
 pub use Rattle.method.specs.declared.LimitsAnswer.{LimitsAnswer}
 pub use Rattle.method.specs.declared.PlaceAnswer.{PlaceAnswer}
 pub use Rattle.method.specs.declared.PlaceAnswer.the-variants.{Below, Inside, Above}
+pub use Rattle.method.specs.declared.BothBounds.{BothBounds}
+pub use Rattle.method.specs.declared.HoldTimes.{HoldTimes}
+pub use Rattle.method.specs.declared.HoldReport.{HoldReport}
+pub use Rattle.method.specs.declared.HoldReport.the-variants.{NoHold, Holding}
+pub use Rattle.method.specs.declared.Report.{Report}
+pub use Rattle.method.specs.declared.ReportAnswer.{ReportAnswer}
 pub use Rattle.method.specs.declared.Closing.{Closing}
 pub use Rattle.method.specs.declared.Row.{Row}
 

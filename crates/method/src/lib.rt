@@ -192,6 +192,43 @@ pub enum PlaceAnswer {
     Refused(EventReason),
 }
 
+// An upper and a lower bound of one kind.
+pub struct BothBounds {
+    pub upper: Steps,
+    pub lower: Steps,
+}
+
+// When a hold started, and when it falls due.
+pub struct HoldTimes {
+    pub start: Seconds,
+    pub due: Seconds,
+}
+
+pub enum HoldReport {
+    NoHold,
+    Holding(HoldTimes),
+}
+
+// What stands on one line: the market bounds by level, the hold of each side, and of the session the shifts left and the clock.
+pub struct Report {
+    pub limits: Limits,
+    pub interest: BothBounds,
+    pub centre: Steps,
+    pub level1: BothBounds,
+    pub level2: BothBounds,
+    pub level3: BothBounds,
+    pub up: HoldReport,
+    pub down: HoldReport,
+    pub book: Book,
+    pub left: u32,
+    pub clock: Seconds,
+}
+
+pub enum ReportAnswer {
+    Standing(Report),
+    Refused(EventReason),
+}
+
 // ---- what the program prints
 
 pub struct Closing {
