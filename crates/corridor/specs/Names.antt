@@ -5,9 +5,13 @@ pub use Rattle.numbers.specs.declared.Seconds.{Seconds}
 pub use Rattle.method.specs.declared.Side.{Side}
 pub use Rattle.method.specs.declared.Side.the-variants.{Up, Down}
 pub use Rattle.method.specs.declared.Line.{Line}
+pub use Rattle.method.specs.declared.Quote.{Quote}
 pub use Rattle.method.specs.declared.ShiftLine.{ShiftLine}
 pub use Rattle.method.specs.declared.Event.{Event}
 pub use Rattle.method.specs.declared.TableAnswer.{TableAnswer}
 pub use Rattle.method.specs.declared.TableReason.{TableReason}
 pub use Rattle.method.specs.declared.EventAnswer.{EventAnswer}
 pub use Rattle.method.specs.declared.EventReason.{EventReason}
+pub use Rattle.method.specs.declared.LimitsAnswer.{LimitsAnswer}
+pub use Rattle.method.specs.declared.PlaceAnswer.{PlaceAnswer}
+pub use Rattle.method.specs.declared.ReportAnswer.{ReportAnswer}

@@ -8,6 +8,9 @@ use method::TableAnswer;
 use numbers::Millionths;
 use numbers::Seconds;
 
+pub mod questions;
+pub mod report;
+
 // The table's lines stand in the first `count` places, in its order. `left` is how many shifts may still be made.
 pub struct Session {
     pub lines: [Line; 32],

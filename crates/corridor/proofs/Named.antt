@@ -1,0 +1,114 @@
+-- The place of an id is that of the first line that has it. `known`, `line-of` and `quoted` speak of that place, shifts leave it as it is,
+-- and a walk over a session's lines finds it. Assumes nothing.
+use mathlib.Core.Path.{_≡_, refl, sym, ap, _∙_, subst}
+use mathlib.Core.Bool.{true, false}
+use mathlib.Core.List.{List, [], _∷_, map}
+use Prim.Native.Nat.{ℕ, zero, suc, _+_, _-_, _≤_, _<_}
+use native.Mathlib.Numerals.{add-one}
+use native.Mathlib.Omega.{arith}
+use borrow.Author.Tests.{eq-eqb, ne-eqb}
+use lib.ListN.{length, getD, set, drop}
+use lib.Seq.{getD-take}
+use Rattle.numbers.proofs.Arrays.{passing, all-passed}
+use Rattle.method.specs.Types.{State, blank}
+use Rattle.method.specs.Opening.{known}
+use Rattle.method.specs.Pressure.{judge}
+use Rattle.method.specs.Shift.{moved-line, shift-line, shifted, onward, after}
+use Rattle.method.specs.Event.{quoted-line, quoted, line-of}
+use Rattle.corridor.specs.Names.{Millionths, Seconds, Side, Line, Quote, ShiftLine}
+use Rattle.corridor.specs.declared.Session.{Session}
+use Rattle.corridor.specs.View.{view, Valid}
+use Rattle.corridor.proofs.Views.{view-length}
+
+-- p is the first place of the id
+unfoldable pub Named : ℕ → List Line → ℕ → Type 0
+Named id [] p = ⊥
+Named id (l ∷ ls) zero = l .terms .id ≡ id
+Named id (l ∷ ls) (suc p) = (l .terms .id ≡ id → ⊥) × Named id ls p
+
+pub named-known : (id : ℕ) (ls : List Line) (p : ℕ) → Named id ls p → known id ls ≡ true
+unfolding Named known
+named-known id [] p h = absurd h
+named-known id (l ∷ ls) zero h = rw (eq-eqb (l .terms .id) id h)
+named-known id (l ∷ ls) (suc p) h = rw (ne-eqb (l .terms .id) id (h .0)) (named-known id ls p (h .1))
+
+pub named-line : (id : ℕ) (ls : List Line) (p : ℕ) → Named id ls p → line-of id ls ≡ getD ls p blank
+unfolding Named line-of
+named-line id [] p h = absurd h
+named-line id (l ∷ ls) zero h = rw (eq-eqb (l .terms .id) id h)
+named-line id (l ∷ ls) (suc p) h = rw (ne-eqb (l .terms .id) id (h .0)) (named-line id ls p (h .1))
+
+pub named-below : (id : ℕ) (ls : List Line) (p : ℕ) → Named id ls p → p < length ls
+unfolding Named
+named-below id [] p h = absurd h
+named-below id (l ∷ ls) zero h = omega arith
+named-below id (l ∷ ls) (suc p) h = omega (arith, named-below id ls p (h .1))
+
+pub named-quoted : (near : Millionths) (left : ℕ) (q : Quote) (ls : List Line) (p : ℕ) → Named (q .id) ls p
+    → quoted near left q ls ≡ set ls p (quoted-line near left q (getD ls p blank))
+unfolding Named quoted
+named-quoted near left q [] p h = absurd h
+named-quoted near left q (l ∷ ls) zero h = rw (eq-eqb (l .terms .id) (q .id) h)
+named-quoted near left q (l ∷ ls) (suc p) h =
+    rw (ne-eqb (l .terms .id) (q .id) (h .0)) (ap (λ (zs : List Line). l ∷ zs) (named-quoted near left q ls p (h .1)))
+
+-- ---- shifts leave every line's terms
+terms-kept : (near : Millionths) (left : ℕ) (side : Side) (now : Seconds) (l : Line) → shift-line near left side now l .terms ≡ l .terms
+unfolding shift-line judge moved-line
+terms-kept near left side now l = refl
+
+named-map : (f : Line → Line) → ((l : Line) → f l .terms ≡ l .terms) → (id : ℕ) (ls : List Line) (p : ℕ) → Named id ls p → Named id (map f ls) p
+unfolding Named
+named-map f e id [] p h = absurd h
+named-map f e id (l ∷ ls) zero h = rw (e l) h
+named-map f e id (l ∷ ls) (suc p) h = (rw (e l) (h .0), named-map f e id ls p (h .1))
+
+pub named-after : (id : ℕ) (cs : List ShiftLine) (s : State) (p : ℕ) → Named id (s .lines) p → Named id (after cs s .lines) p
+unfolding after shifted
+named-after id [] s p h = h
+named-after id (c ∷ cs) s p h =
+    named-after id cs (onward s c) p
+    (named-map (shift-line (s .near) (s .left - 1) (c .side) (c .second)) (terms-kept (s .near) (s .left - 1) (c .side) (c .second)) id (s .lines) p h)
+
+-- ---- the search: none of the first k lines has the id
+pub record Unnamed (id : ℕ) (ls : List Line) (k : ℕ) : Type 0 where
+  pub rest : known id (drop k ls) ≡ known id ls
+  pub on : (p : ℕ) → Named id (drop k ls) p → Named id ls (k + p)
+
+pub unnamed-start : (id : ℕ) (ls : List Line) → Unnamed id ls 0
+unnamed-start id ls = record { rest = refl; on = λ p h. subst (Named id ls) (omega arith) h }
+
+module _ (id : ℕ) (ls : List Line) (k : ℕ) (u : Unnamed id ls k) where
+  pub unnamed-met : (l : Line) → drop k ls ≡ l ∷ drop (suc k) ls → l .terms .id ≡ id → Named id ls k
+  unfolding Named
+  unnamed-met l e h = subst (Named id ls) (omega arith) (u .on 0 (rw e h))
+
+  pub unnamed-turn : (l : Line) → drop k ls ≡ l ∷ drop (suc k) ls → (l .terms .id ≡ id → ⊥) → Unnamed id ls (suc k)
+  unfolding known Named
+  unnamed-turn l e h =
+      record {
+        rest = sym (ap (known id) e ∙ (rw (ne-eqb (l .terms .id) id h))) ∙ u .rest;
+        on = λ p g. subst (Named id ls) (omega arith) (u .on (suc p) (rw e (h, g)));
+      }
+
+  pub unnamed-all : drop k ls ≡ [] → known id ls ≡ false
+  unfolding known
+  unnamed-all e = sym (u .rest) ∙ ap (known id) e
+
+-- ---- the walk over a session's lines
+module _ (s : Session) (id i : ℕ) (v : Valid s) (u : Unnamed id (view s .lines) i) where
+  room : s .count ≤ length (s .lines)
+  room = omega (arith, v .few, v .full)
+
+  pub walk-met : i < s .count → getD (s .lines) i blank .terms .id ≡ id → Named id (view s .lines) i
+  walk-met g h = unnamed-met id (view s .lines) i u (getD (s .lines) i blank) (passing i (s .count) (s .lines) blank g room) h
+
+  pub walk-turn : i < s .count → (getD (s .lines) i blank .terms .id ≡ id → ⊥) → Unnamed id (view s .lines) (i + 1)
+  walk-turn g h = rw add-one (unnamed-turn id (view s .lines) i u (getD (s .lines) i blank) (passing i (s .count) (s .lines) blank g room) h)
+
+  pub walk-all : i ≡ s .count → known id (view s .lines) ≡ false
+  walk-all e = unnamed-all id (view s .lines) i u (rw e (all-passed (s .count) (s .lines) room))
+
+-- the line of an id, in the array
+pub walk-line : (s : Session) (id p : ℕ) → Valid s → Named id (view s .lines) p → line-of id (view s .lines) ≡ getD (s .lines) p blank
+walk-line s id p v h = named-line id (view s .lines) p h ∙ getD-take (s .count) (s .lines) p blank (omega (arith, named-below id (view s .lines) p h, view-length v))

@@ -1,0 +1,39 @@
+-- `corridor::report::line_report` meets its contract. Assumes nothing.
+use Rattle.method.specs.Report.{line-report}
+use Rattle.corridor.proofs.Asking.{room-centre, room-half1, room-half2, room-half3, room-drawn}
+use Rattle.corridor.proofs.report.line_report.Statement.{statement}
+use Rattle.corridor.proofs.report.line_report.Tie as tie
+
+interest-bounds-requires : tie.Need-interest-bounds-requires
+interest-bounds-requires c κs = room-drawn (c .before .before .before .pre .1)
+
+market-bounds-requires : tie.Need-market-bounds-requires
+market-bounds-requires c κs = (room-centre (c .before .before .before .before .before .before .before .before .pre .1), room-half1 (c .before .before .before .before .before .before .before .before .pre .1))
+
+market-bounds-requires-2 : tie.Need-market-bounds-requires-2
+market-bounds-requires-2 c κs = (room-centre (c .before .before .before .before .before .before .before .before .before .pre .1), room-half2 (c .before .before .before .before .before .before .before .before .before .pre .1))
+
+market-bounds-requires-3 : tie.Need-market-bounds-requires-3
+market-bounds-requires-3 c κs = (room-centre (c .before .before .before .before .before .before .before .before .before .before .pre .1), room-half3 (c .before .before .before .before .before .before .before .before .before .before .pre .1))
+
+hold-report-requires : tie.Need-hold-report-requires
+hold-report-requires c κs = (c .before .before .before .before .before .before .before .before .before .before .before .pre .0, c .before .before .before .before .before .before .before .before .before .before .before .pre .1 .holds .up)
+
+hold-report-requires-2 : tie.Need-hold-report-requires-2
+hold-report-requires-2 c κs = (c .before .before .before .before .before .before .before .before .before .before .before .before .pre .0, c .before .before .before .before .before .before .before .before .before .before .before .before .pre .1 .holds .down)
+
+returns : tie.Need-returns
+unfolding line-report
+returns c = rw (c .before .before .before .before .before .before .before .before .before .before .interest-bounds .ensures, c .before .before .before .before .before .market-bounds .ensures, c .before .before .before .before .market-bounds2 .ensures, c .before .before .before .market-bounds3 .ensures, c .before .before .hold-report .ensures, c .before .hold-report2 .ensures)
+
+pub line-report-spec : {M : Type 1} → statement M
+line-report-spec =
+    tie.close
+    (tie.spec
+    interest-bounds-requires
+    market-bounds-requires
+    market-bounds-requires-2
+    market-bounds-requires-3
+    hold-report-requires
+    hold-report-requires-2
+    returns)
