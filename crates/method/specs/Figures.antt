@@ -46,8 +46,8 @@ use Rattle.method.specs.Pressure.{close, presses, judged, judge}
 use Rattle.method.specs.Shift.{moved, redrawn, moved-line, shift-line, shifted, after}
 use Rattle.method.specs.Event.{read-tick, read-quote, read, in-session, not-crossed, verdict, quoted-line, quoted, applied, next}
 use Rattle.method.specs.Search.{due-of, ahead, sooner, passed, earliest, in-time, next-due, serve, answer, run, finally}
-use Rattle.method.specs.Program.{rows-of, rows-of-all, closing-row, session-rows, pieces, rows-after, program, row-numbers}
-use Rattle.method.specs.Inputs.{sample, tick, empty, bid, printed, Figure}
+use Rattle.method.specs.Program.{rows-of, rows-of-all, closing-row, session-rows, pieces, rows-after, program, row-numbers, numbers-of}
+use Rattle.method.specs.Inputs.{sample, tick, empty, bid, Figure}
 
 -- ---- inputs
 -- "Keys (30; 100,000), (90; 70,001)"
@@ -146,7 +146,7 @@ starred =
     -- 7 950 1150 900 1200.
     ∷ figure
     (map pos (1 ∷ 70 ∷ 0 ∷ 7 ∷ 0 ∷ 0 ∷ 1 ∷ 160 ∷ 0 ∷ 7 ∷ 0 ∷ 0 ∷ 4 ∷ 7 ∷ 950 ∷ 1_150 ∷ 900 ∷ 1_200 ∷ []))
-    (printed
+    (numbers-of
     (program
     (sample 1_000 2 (7 ∷ []) (bid 10 7 1_046 (tick 69 (tick 70 (bid 100 7 1_093 (empty 200 7 (bid 210 7 1_150 (tick 1_000 []))))))))))
     ∷ []

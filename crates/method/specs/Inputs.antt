@@ -4,7 +4,7 @@ use Prim.Native.Nat.{ℕ, _/_, _%_}
 use lib.IntN.{ℤ, pos}
 use lib.ListN.{length}
 use Rattle.method.specs.Types.{Row}
-use Rattle.method.specs.Program.{side-number, row-numbers}
+use Rattle.method.specs.Program.{side-number}
 
 -- 32-bit fields as bytes, the lowest first
 abbrev pub bytes : List ℕ → List ℕ
@@ -34,11 +34,7 @@ bid t id p events = t ∷ id ∷ 1 ∷ p ∷ 0 ∷ events
 abbrev pub ask : ℕ → ℕ → ℕ → List ℕ → List ℕ
 ask t id p events = t ∷ id ∷ 2 ∷ 0 ∷ p ∷ events
 
--- ---- rows in numbers, one after another; and only the shift lines among them: second, side (0 up, 1 down), id
-abbrev pub printed : List Row → List ℤ
-printed [] = []
-printed (row ∷ rows) = row-numbers row ++ printed rows
-
+-- ---- only the shift lines among rows: second, side (0 up, 1 down), id
 abbrev pub shifts : List Row → List ℤ
 shifts [] = []
 shifts (Row.Shift c ∷ rows) = pos (c .second .0) ∷ pos (side-number (c .side)) ∷ pos (c .id) ∷ shifts rows

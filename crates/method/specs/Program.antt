@@ -67,3 +67,8 @@ row-numbers (Row.RefusedEvent why) = pos 2 ∷ pos (event-number why) ∷ pos 0 
 row-numbers (Row.RefusedTable why line) = pos 3 ∷ pos (table-number why) ∷ pos line ∷ pos 0 ∷ pos 0 ∷ pos 0 ∷ []
 row-numbers (Row.Closed c) =
     pos 4 ∷ pos (c .id) ∷ c .lower .0 ∷ c .upper .0 ∷ c .lowerbound .0 ∷ c .upperbound .0 ∷ []
+
+-- rows in numbers, one after another
+abbrev pub numbers-of : List Row → List ℤ
+numbers-of [] = []
+numbers-of (row ∷ rows) = row-numbers row ++ numbers-of rows

@@ -2,7 +2,7 @@
 use borrow.Author.Needs.{needs}
 use native.Mathlib.Omega.{arith}
 use Rattle.method.specs.Report.{hold-report}
-use Rattle.line.proofs.Finding.{since-in}
+use Rattle.holds.proofs.Finding.{since-in}
 use Rattle.corridor.proofs.report.hold_report.Statement.{statement}
 use Rattle.corridor.proofs.report.hold_report.Tie as tie
 

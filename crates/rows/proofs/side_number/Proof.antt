@@ -1,0 +1,21 @@
+-- `rows::side_number` meets its contract. Assumes nothing.
+use borrow.Author.Needs.{needs}
+use mathlib.Core.Path.{refl}
+use Rattle.method.specs.Program.{side-number}
+use Rattle.rows.proofs.side_number.Statement.{statement}
+use Rattle.rows.proofs.side_number.Tie as tie
+
+enum-told : tie.Need-enum-told
+enum-told c = search needs
+
+enum-told-2 : tie.Need-enum-told-2
+enum-told-2 c = search needs
+
+returns : tie.Need-returns
+returns c = rw (c .enum-told .given .1) refl
+
+returns-2 : tie.Need-returns-2
+returns-2 c = rw (c .enum-told2 .given .1) refl
+
+pub side-number-spec : {M : Type 1} → statement M
+side-number-spec = tie.close (tie.spec enum-told enum-told-2 returns returns-2)

@@ -1,0 +1,9 @@
+-- A buffer of numbers that is written from a place on.
+use mathlib.Core.List.{List, _++_}
+use Prim.Native.Nat.{ℕ, _+_}
+use lib.IntN.{ℤ}
+use lib.ListN.{length, take, drop}
+
+-- `out` with xs in it from `at` on, and all else as it was
+abbrev pub written : List ℤ → ℕ → List ℤ → List ℤ
+written out at xs = take at out ++ xs ++ drop (at + length xs) out
