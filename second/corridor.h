@@ -1,5 +1,5 @@
 /*
- * corridor.h: the price-corridor engine, written a second time from the paper alone.
+ * corridor.h: the price-corridor engine, written a second time from the paper and docs/DECISIONS.md.
  *
  * It opens a session from a morning table, takes timed events one by one, answers each with the shifts
  * it called for, and answers questions on limits, order prices and interest bounds.

@@ -1,6 +1,6 @@
 /*
  * figures.c: runs every figure of the paper and every decided example through the engine and the program,
- * and compares with the answers stated there. The labels A1 to B11 are those of the written readings.
+ * and compares with the answers stated there. The labels A1 to B11 are those of docs/DECISIONS.md.
  */
 #include "corridor.h"
 #include "draft.h"
