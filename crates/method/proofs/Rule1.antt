@@ -6,7 +6,7 @@ use Rattle.method.specs.Types.{ShiftLine, State, EventReason, EventAnswe
 use Rattle.method.specs.Event.{read, verdict, refused as turned-away, next}
 use Rattle.method.specs.CalledFor.{joined}
 use Rattle.method.specs.Search.{answer, run, finally}
-use Rattle.method.specs.Program.{rows-after}
+use Rattle.method.specs.Program.{rows-after, program}
 use Rattle.method.specs.Rules.{TableAnswered, EveryTable, EventAnswered, EveryEvent, RefusedOpensNothing, RefusedChangesNothing}
 use Rattle.method.proofs.Table.{not-opened}
 use Rattle.method.proofs.TableAnswered.{table-answered, answered-table}
@@ -22,8 +22,8 @@ rule1-every-event s b a = (λ e. subst (EventAnswered s b) e (event-answered s b
 
 -- ---- a refused table
 pub rule1-refused-table : RefusedOpensNothing
-unfolding rows-after
-rule1-refused-table b why line e = (λ s h. not-opened (sym e ∙ h), λ events. rw e refl)
+unfolding rows-after program
+rule1-refused-table b why line e = (λ s h. not-opened (sym e ∙ h), λ input cut. rw (cut, e) refl)
 
 -- ---- a refused event
 module _ (s : State) (b : List ℕ) (why : EventReason) (v : verdict s (read b) ≡ EventAnswer.Refused why) where

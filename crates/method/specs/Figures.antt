@@ -54,7 +54,7 @@ use Rattle.method.specs.Inputs.{sample, tick, empty, bid, Figure}
 abbrev two-keys : List Key
 two-keys = record { days = 30; rate = millionths 100_000 } ∷ record { days = 90; rate = millionths 70_001 } ∷ []
 
--- a contract that its rates, spot and least price give the half-width 100 (or 30), with the exponent that the key gives it at its 365 days
+-- a contract whose rates, spot and least price give the half-width 100 (or 30), with the exponent that the key gives it at its 365 days
 abbrev contract : ℤ → ℤ → ℕ → ℕ → ℕ → Contract
 contract price least rate width flags =
     record {

@@ -21,6 +21,13 @@ abbrev pub sample : ℕ → ℕ → List ℕ → List ℕ → List ℕ
 sample end most ids events =
     bytes (1 ∷ length ids ∷ 48 ∷ 1 ∷ 40 ∷ end ∷ 60 ∷ most ∷ 50_000 ∷ 500_000 ∷ 365 ∷ 0 ∷ sample-contracts ids ++ events)
 
+-- one contract of P 30 whose lower limit meets the floor at its first down shift; end 1,000, most shifts 16
+abbrev pub thirty : List ℕ → List ℕ
+thirty events =
+    bytes
+    (1 ∷ 1 ∷ 48 ∷ 1 ∷ 40 ∷ 1_000 ∷ 60 ∷ 16 ∷ 50_000 ∷ 500_000 ∷ 365 ∷ 0
+    ∷ 30 ∷ 30 ∷ 1 ∷ 1_000_000 ∷ 1_000_000 ∷ 1_000_000 ∷ 900_000 ∷ 90 ∷ 7 ∷ 2 ∷ events)
+
 -- ---- an event before the events that follow it
 abbrev pub tick : ℕ → List ℕ → List ℕ
 tick t events = t ∷ 0 ∷ 4 ∷ 0 ∷ 0 ∷ events
@@ -42,7 +49,7 @@ shifts (Row.RefusedEvent why ∷ rows) = shifts rows
 shifts (Row.RefusedTable why line ∷ rows) = shifts rows
 shifts (Row.Closed c ∷ rows) = shifts rows
 
--- ---- a figure: what the paper prints, and what the definitions give
+-- ---- a figure: what is to come, and what the definitions give
 pub record Figure : Type 0 where
   pub printed : List ℤ
   pub computed : List ℤ

@@ -1,5 +1,5 @@
--- All that a gate or an operator asks of one line, in one answer. Like the other questions it knows only refusal 13, serves nothing and
--- knows no time.
+-- All that a gate or an operator asks of one line, in one answer. The paper leaves its form to us. Like the other questions it knows
+-- only refusal 13, and serves nothing: what it tells is as of the clock.
 use mathlib.Core.Path.{_≡_, refl}
 use mathlib.Core.Bool.{false}
 use mathlib.Core.List.{[], _∷_}
@@ -73,7 +73,7 @@ report id s =
     demand (known id (s .lines)) (ReportAnswer.Refused EventReason.UnknownId)
     (ReportAnswer.Standing (line-report (s .hold) (s .left) (s .clock) (line-of id (s .lines))))
 
--- ---- a figure: the sample table of paper 01 after the events "10 bid 1046; 69 tick"
+-- ---- a figure: a state written out by hand, as the sample table of paper 01 stands after "10 bid 1046; 69 tick"
 abbrev sample-line : Line
 sample-line =
     record {

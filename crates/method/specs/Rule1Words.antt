@@ -1,5 +1,5 @@
 -- The words of rule 1: what a table and an event have to be, over the fields and ranges of paper 01's tables, with none of the tests that
--- the definitions decide by.
+-- refuse.
 use mathlib.Core.Path.{_≡_}
 use mathlib.Core.Bool.{Bool, true, false}
 use mathlib.Core.List.{List, [], _∷_, _++_}

@@ -1,21 +1,21 @@
 -- Rules 1, 2 and 3 (paper 00) as statements about paper 01's definitions: all that is claimed of the method, in the rules' order and words, and
 -- no proof. Their words are in Rule1Words, Rule2Words and Rule3Words. The name in brackets is the theorem; those of a rule stand in the
--- proofs file of the rule's name. That tables are accepted and shifts are made at all, so that no statement is empty, is in the starred
--- figures (`starred-claim`).
+-- proofs file of the rule's name. That tables are accepted and shifts are made at all, so that no statement is empty, is in the figures
+-- and examples (`starred-claim`, `examples-claim`).
 use mathlib.Core.Path.{_≡_}
 use mathlib.Core.Bool.{true}
 use mathlib.Core.List.{List, [], _∷_, _++_, map}
 use mathlib.Core.Logic.{_↔_}
 use Prim.Native.Nat.{ℕ, suc, _+_, _-_, _≤_, _<_}
-use lib.ListN.{length}
+use lib.ListN.{length, take}
 use Rattle.method.specs.Types.{Side, Up, Down, Seconds, Key, Contract, Line, ShiftLine, Due, State, Row, TableReason, EventReason, EventAnswer}
 use Rattle.method.specs.Wire.{word}
-use Rattle.method.specs.Table.{header-of, Opening, opened, refused, opening-state, opening}
+use Rattle.method.specs.Table.{header-of, table-length, Opening, opened, refused, opening-state, opening}
 use Rattle.method.specs.Shift.{onward, after}
 use Rattle.method.specs.Event.{read, verdict, Answer, accepted, next}
 use Rattle.method.specs.CalledFor.{Stands, Done, Calls, time, Right, Answers, reached, joined}
 use Rattle.method.specs.Search.{run, finally}
-use Rattle.method.specs.Program.{rows-after}
+use Rattle.method.specs.Program.{program}
 use Rattle.method.specs.Ranges.{HeaderIn, KeyIn, KeysIn, Every}
 use Rattle.method.specs.Later.{Later}
 use Rattle.method.specs.Rule1Words.{
@@ -40,7 +40,7 @@ use Rattle.method.specs.Rule3Words.{count, Each, EachLine, Centre, HalfW
 
 -- ==== RULE 1
 -- ---- "Every table .., however damaged, gets an answer."
--- the answer to a table: one clause for each way, of which exactly one holds
+-- the answer to a table: one clause for each way, and together they leave exactly one answer
 pub data TableAnswered (b : List ℕ) : Opening → Type 0 where
   -- 1
   too-short : length b < 40 → TableAnswered b (refused TableReason.Length 0)
@@ -72,7 +72,7 @@ abbrev pub EveryTable : Type 0
 EveryTable = (b : List ℕ) (a : Opening) → (opening b ≡ a) ↔ TableAnswered b a
 
 -- ---- "every event, however damaged, gets an answer."
--- the answer to an event in state s: one clause for each way, of which exactly one holds
+-- the answer to an event in state s: one clause for each way, and together they leave exactly one answer
 pub data EventAnswered (s : State) (b : List ℕ) : EventAnswer → Type 0 where
   -- 12
   no-event : (IsEvent b → ⊥) → EventAnswered s b (EventAnswer.Refused EventReason.Malformed)
@@ -94,11 +94,11 @@ abbrev pub EveryEvent : Type 0
 EveryEvent = (s : State) (b : List ℕ) (a : EventAnswer) → (verdict s (read b) ≡ a) ↔ EventAnswered s b a
 
 -- ---- "A refused table opens no session."
--- No state is opened, and whatever events follow, one row is printed and nothing more. (rule1-refused-table)
+-- No state is opened, and the program prints one row and nothing more, whatever events follow. (rule1-refused-table)
 abbrev pub RefusedOpensNothing : Type 0
 RefusedOpensNothing =
     (b : List ℕ) (why : TableReason) (line : ℕ) → opening b ≡ refused why line
-    → ((s : State) → opening b ≡ opened s → ⊥) × ((events : List (List ℕ)) → rows-after (opening b) events ≡ Row.RefusedTable why line ∷ [])
+    → ((s : State) → opening b ≡ opened s → ⊥) × ((input : List ℕ) → take (table-length (header-of input)) input ≡ b → program input ≡ Row.RefusedTable why line ∷ [])
 
 -- ---- "A refused event leaves the session, its clock included, as it stood"
 -- "10 to 14 change nothing, and serve nothing" (paper 01), in any state and after any events. That no input bytes are written needs no
@@ -133,7 +133,7 @@ NoneMissed =
     → let s : State = after cs (reached o past told) in
     (x : Due) → Stands s x → x .second .0 ≤ time (read b) .0 → x .second .0 < o .end .0 → Answered x (s .left) ds)
 
--- It does not matter when the clock is looked at: the shifts up to second u and then those up to t are those up to t. (rule2-whenever-looked)
+-- A look at second u, before t, calls for no other shift: those up to u and then those up to t are those up to t. (rule2-whenever-looked)
 abbrev pub WheneverLooked : Type 0
 WheneverLooked =
     (s : State) (u t : Seconds) (cs ds : List ShiftLine) → u .0 ≤ t .0 → Calls u s cs → Calls t (after cs s) ds

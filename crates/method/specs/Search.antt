@@ -1,5 +1,5 @@
--- How the answers are found. Nobody has to believe this file: it is proved to give the one list of answers that `CalledFor` admits
--- (`RightAnswers`).
+-- How the answers are found. Nobody has to believe the search: after every accepted table it is proved to give the one list of answers that
+-- `CalledFor` admits (`RightAnswers`).
 -- The search passes the lines once, in the table's order, and carries the hold that goes first of those passed.
 use mathlib.Core.Bool.{Bool, true, false, cond}
 use mathlib.Core.List.{List, [], _∷_}

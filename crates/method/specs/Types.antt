@@ -1,5 +1,5 @@
 -- The words of the method: the data that src/lib.rt declares, and the state of a session.
--- A constructor that several types have is written behind its type, as `LineAnswer.Opened`.
+-- A case that several enums have is written behind its enum, as `LineAnswer.Opened`.
 use mathlib.Core.Bool.{Bool, true, false}
 use mathlib.Core.List.{List}
 use Prim.Native.Nat.{ℕ}
