@@ -1,0 +1,60 @@
+-- `wire::event::read_quote` meets its contract. Assumes nothing.
+use borrow.Author.Needs.{needs}
+use Rattle.numbers.proofs.Tests.{failed, held}
+use Rattle.method.specs.Event.{read-quote}
+use Rattle.wire.proofs.event.read_quote.Statement.{statement}
+use Rattle.wire.proofs.event.read_quote.Tie as tie
+
+bit-0-requires : tie.Need-bit-0-requires
+bit-0-requires c κs = search needs
+
+bit-1-requires : tie.Need-bit-1-requires
+bit-1-requires c κs = search needs
+
+reserved-zero-requires : tie.Need-reserved-zero-requires
+reserved-zero-requires c κs = search needs
+
+returns : tie.Need-returns
+unfolding read-quote
+returns c = rw (failed (c .before .reserved-zero .ensures) (c .if1 .taken))
+
+price-good-requires : tie.Need-price-good-requires
+price-good-requires c κs = search needs
+
+returns-2 : tie.Need-returns-2
+unfolding read-quote
+returns-2 c = rw (← c .before .before .before .before .before .bit-0 .ensures, held (c .before .before .before .reserved-zero .ensures) (c .before .before .if1 .left), failed (c .before .price-good .ensures) (c .if2 .taken))
+
+price-good-requires-2 : tie.Need-price-good-requires-2
+price-good-requires-2 c κs = search needs
+
+returns-3 : tie.Need-returns-3
+unfolding read-quote
+returns-3 c = rw (← c .before .before .before .before .before .before .before .bit-0 .ensures, ← c .before .before .before .before .before .before .bit-1 .ensures, held (c .before .before .before .before .before .reserved-zero .ensures) (c .before .before .before .before .if1 .left), held (c .before .before .before .price-good .ensures) (c .before .before .if2 .left), failed (c .before .price-good2 .ensures) (c .if3 .taken))
+
+price-of-requires : tie.Need-price-of-requires
+price-of-requires c κs = search needs
+
+price-of-requires-2 : tie.Need-price-of-requires-2
+price-of-requires-2 c κs = search needs
+
+returns-4 : tie.Need-returns-4
+unfolding read-quote
+returns-4 c =
+    rw (← c .before .before .before .before .before .before .before .before .before .bit-0 .ensures, ← c .before .before .before .before .before .before .before .before .bit-1 .ensures, held (c .before .before .before .before .before .before .before .reserved-zero .ensures) (c .before .before .before .before .before .before .if1 .left), held (c .before .before .before .before .before .price-good .ensures) (c .before .before .before .before .if2 .left), held (c .before .before .before .price-good2 .ensures) (c .before .before .if3 .left), c .before .price-of .ensures, c .price-of2 .ensures)
+
+pub read-quote-spec : {M : Type 1} → statement M
+read-quote-spec =
+    tie.close
+    (tie.spec
+    bit-0-requires
+    bit-1-requires
+    reserved-zero-requires
+    returns
+    price-good-requires
+    returns-2
+    price-good-requires-2
+    returns-3
+    price-of-requires
+    price-of-requires-2
+    returns-4)
