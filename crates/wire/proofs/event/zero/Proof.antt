@@ -2,7 +2,6 @@
 use borrow.Author.Needs.{needs}
 use lib.IntN.{pos}
 use Rattle.numbers.proofs.Machine.{literal, same-bits}
-use borrow.Author.Needs.{needs}
 use Rattle.wire.proofs.event.zero.Statement.{statement}
 use Rattle.wire.proofs.event.zero.Tie as tie
 
