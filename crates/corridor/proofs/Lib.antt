@@ -1,5 +1,9 @@
 pub mod Opening
 pub mod Views
+pub mod Rows
+pub mod Shifting
+pub mod Due
+pub mod DueServed
 pub mod Named
 pub mod Asking
 pub mod Theorems

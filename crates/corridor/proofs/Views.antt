@@ -1,5 +1,5 @@
 -- `view` and `put`: a state that is written is read back, and a session that is read and written is as it was. Assumes nothing.
-use mathlib.Core.Path.{_≡_, refl, ap, sym, _∙_}
+use mathlib.Core.Path.{_≡_, ap, sym, _∙_}
 use mathlib.Core.List.{List, _++_}
 use Prim.Native.Nat.{ℕ, _-_, _≤_}
 use native.Mathlib.Omega.{arith}
@@ -10,7 +10,7 @@ use Rattle.method.specs.Ranges.{Sane}
 use Rattle.method.specs.Sound.{Sound}
 use Rattle.corridor.specs.Names.{Line}
 use Rattle.corridor.specs.declared.Session.{Session}
-use Rattle.corridor.specs.View.{view, put, Valid}
+use Rattle.corridor.specs.View.{view, put, Ranged, Valid}
 
 -- the state, and the session, with other lines
 abbrev lines-of : State → List Line → State
@@ -28,22 +28,28 @@ put-put s x y e =
     (ap (λ (n : ℕ). drop n (x .lines ++ drop (length (x .lines)) (s .lines))) e ∙ drop-append-seam (x .lines) (drop (length (x .lines)) (s .lines))
     ∙ ap (λ (n : ℕ). drop n (s .lines)) (sym e))
 
+pub ranged : {s : Session} → Valid s → Ranged s
+ranged v = record { full = v .full; few = v .few; sane = v .sane }
+
+pub ranged-length : {s : Session} → Ranged s → length (view s .lines) ≡ s .count
+ranged-length {s} v = length-take-le (s .count) (s .lines) (omega (arith, v .few, v .full))
+
 pub view-length : {s : Session} → Valid s → length (view s .lines) ≡ s .count
-view-length {s} v = length-take-le (s .count) (s .lines) (omega (arith, v .few, v .full))
+view-length v = ranged-length (ranged v)
 
 pub put-view : {s : Session} → Valid s → put s (view s) ≡ s
 put-view {s} v =
     ap (λ (n : ℕ). rows (view s) n (take (s .count) (s .lines) ++ drop n (s .lines))) (view-length v)
     ∙ ap (rows (view s) (s .count)) (take-append-drop (s .count) (s .lines))
 
-pub valid-put : (s : Session) (x : State) → length (s .lines) ≡ 32 → length (x .lines) ≤ 32 → Sane x → Sound x → Valid (put s x)
-valid-put s x full few w o =
-    record {
-      full = omega (arith, length-append (x .lines) (drop (length (x .lines)) (s .lines)), open-places);
-      few = few;
-      sane = rw (view-put s x) w;
-      sound = rw (view-put s x) o;
-    }
+pub ranged-put : (s : Session) (x : State) → length (s .lines) ≡ 32 → length (x .lines) ≤ 32 → Sane x → Ranged (put s x)
+ranged-put s x full few w =
+    record { full = omega (arith, length-append (x .lines) (drop (length (x .lines)) (s .lines)), open-places); few = few; sane = rw (view-put s x) w }
   where
     open-places : length (drop (length (x .lines)) (s .lines)) ≡ 32 - length (x .lines)
     open-places = length-drop (length (x .lines)) (s .lines) ∙ ap (λ (n : ℕ). n - length (x .lines)) full
+
+pub valid-put : (s : Session) (x : State) → length (s .lines) ≡ 32 → length (x .lines) ≤ 32 → Sane x → Sound x → Valid (put s x)
+valid-put s x full few w o =
+    let r = ranged-put s x full few w in
+    record { full = r .full; few = r .few; sane = r .sane; sound = rw (view-put s x) o }

@@ -38,6 +38,12 @@ unfoldable pub opened-session : Opening → Opened
 opened-session (opened x) = record { answer = TableAnswer.Opened; session = put no-session x }
 opened-session (refused why line) = record { answer = TableAnswer.Refused why line; session = no-session }
 
+-- The array's length and the ranges of a session's numbers: what one shift asks, and keeps.
+pub record Ranged (s : Session) : Type 0 where
+  pub full : length (s .lines) ≡ 32
+  pub few : s .count ≤ 32
+  pub sane : Sane (view s)
+
 -- What a method of a session asks, and every session has: the array's length, the ranges of its numbers, and that holds stand exactly
 -- where there is pressure and none is left to serve up to the clock.
 pub record Valid (s : Session) : Type 0 where

@@ -3,13 +3,17 @@
 ghost use mathlib.Core.Path.{_≡_};
 ghost use Rattle.method.specs.Table.{opening};
 ghost use Rattle.corridor.specs.View.{opened-session};
+use method::EventAnswer;
 use method::Line;
+use method::ShiftLine;
+use method::Side;
 use method::TableAnswer;
 use numbers::Millionths;
 use numbers::Seconds;
 
 pub mod questions;
 pub mod report;
+pub mod serving;
 
 // The table's lines stand in the first `count` places, in its order. `left` is how many shifts may still be made.
 pub struct Session {
@@ -28,6 +32,28 @@ pub struct Opened {
     pub answer: TableAnswer,
     pub session: Session,
 }
+
+// The shift lines that are made stand in the first `made` places, in their order.
+pub struct Served {
+    pub shifts: [ShiftLine; 16],
+    pub made: usize,
+    pub session: Session,
+}
+
+// The answer to an event with its shift lines, and beside it the session. A refused event changes nothing.
+pub struct Reply {
+    pub answer: EventAnswer,
+    pub shifts: [ShiftLine; 16],
+    pub made: usize,
+    pub session: Session,
+}
+
+// What stands past the last shift line.
+pub const NO_SHIFT: ShiftLine = ShiftLine {
+    second: Seconds(0),
+    side: Side::Up,
+    id: 0,
+};
 
 // Opens a session from the bytes of a morning table.
 pub fn open(bytes: &[u8]) -> Opened

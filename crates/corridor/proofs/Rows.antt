@@ -1,0 +1,49 @@
+-- A loop that changes each of the first rows of an array, and a row that is read by its place. Assumes nothing.
+use mathlib.Core.Path.{_≡_, refl, ap}
+use mathlib.Core.List.{List, [], _∷_, _++_, map}
+use Prim.Native.Nat.{ℕ, zero, suc, _≤_, _<_}
+use native.Mathlib.Omega.{arith}
+use lib.ListN.{length, getD, set, take, drop}
+use Rattle.method.specs.Types.{blank}
+use Rattle.method.specs.Ranges.{Every, Room}
+use Rattle.corridor.specs.declared.Session.{Session}
+use Rattle.corridor.specs.View.{Ranged}
+
+-- the first k elements changed
+unfoldable pub changed : {A : Type 0} → (A → A) → ℕ → List A → List A
+changed f zero xs = xs
+changed f (suc k) [] = []
+changed f (suc k) (x ∷ xs) = f x ∷ changed f k xs
+
+module _ {A : Type 0} (f : A → A) where
+  -- the next one stands as it was
+  pub changed-at : (k : ℕ) (xs : List A) (d : A) → getD (changed f k xs) k d ≡ getD xs k d
+  unfolding changed
+  changed-at zero xs d = refl
+  changed-at (suc k) [] d = refl
+  changed-at (suc k) (x ∷ xs) d = changed-at k xs d
+
+  pub changed-next : (k : ℕ) (xs : List A) (d : A) → k < length xs → set (changed f k xs) k (f (getD xs k d)) ≡ changed f (suc k) xs
+  unfolding changed
+  changed-next zero [] d h = absurd (omega arith)
+  changed-next zero (x ∷ xs) d h = refl
+  changed-next (suc k) [] d h = refl
+  changed-next (suc k) (x ∷ xs) d h = ap (λ (l : List A). f x ∷ l) (changed-next k xs d (omega arith))
+
+  -- at the end: the method's map, written over the first places
+  pub changed-view : (n : ℕ) (xs : List A) → changed f n xs ≡ map f (take n xs) ++ drop n xs
+  unfolding changed
+  changed-view zero xs = refl
+  changed-view (suc n) [] = refl
+  changed-view (suc n) (x ∷ xs) = ap (λ (l : List A). f x ∷ l) (changed-view n xs)
+
+-- ---- a row of a session
+every-at : {A : Type 0} (P : A → Type 0) (i n : ℕ) (xs : List A) (d : A) → Every P (take n xs) → i < n → n ≤ length xs → P (getD xs i d)
+unfolding Every
+every-at P i zero xs d ps h g = absurd (omega arith)
+every-at P i (suc n) [] d ps h g = absurd (omega arith)
+every-at P zero (suc n) (x ∷ xs) d ps h g = ps .0
+every-at P (suc i) (suc n) (x ∷ xs) d ps h g = every-at P i n xs d (ps .1) (omega arith) (omega arith)
+
+pub room-at : {s : Session} (i : ℕ) → Ranged s → i < s .count → Room (s .left) (getD (s .lines) i blank)
+room-at {s} i v h = every-at (Room (s .left)) i (s .count) (s .lines) blank (v .sane .rooms) h (omega (arith, v .full, v .few))

@@ -1,0 +1,81 @@
+-- `corridor::Session::shifted` meets its contract. Assumes nothing.
+use borrow.Author.Needs.{needs}
+use mathlib.Core.Path.{_≡_, refl, subst}
+use Prim.Native.Nat.{ℕ, suc, _≤_, _-_}
+use native.Mathlib.Omega.{arith}
+use lib.ListN.{getD}
+use Rattle.method.specs.Types.{blank}
+use Rattle.method.specs.Ranges.{Room}
+use Rattle.method.specs.Shift.{shift-line}
+use Rattle.line.proofs.Rooms.{room-shifts}
+use Rattle.corridor.proofs.Rows.{changed, changed-at, room-at}
+use Rattle.corridor.proofs.Shifting.{with-rows, change-turn, all-shifted}
+use Rattle.corridor.proofs.Session.shifted.Statement.{statement}
+use Rattle.corridor.proofs.Session.shifted.Tie as tie
+
+abbrev Inv-loop : tie.InvT-loop
+Inv-loop side now self₀ n near left i₀ self i = (i ≤ n) × (self ≡ with-rows self₀ (changed (shift-line near left side now) i (self₀ .lines)))
+
+abbrev μ-loop : tie.MeasureT-loop
+μ-loop side now self₀ n near left i₀ self i = n - i
+
+sub-left : tie.Need-sub-left Inv-loop μ-loop
+sub-left c = omega arith
+
+loop-holds : tie.Need-loop-holds Inv-loop μ-loop
+unfolding changed
+loop-holds c = (omega arith, refl)
+
+mul-l : tie.Need-mul-l Inv-loop μ-loop
+mul-l c = search needs
+
+element-copy-out-l : tie.Need-element-copy-out-l Inv-loop μ-loop
+element-copy-out-l c = search needs
+
+shift-line-requires : tie.Need-shift-line-requires Inv-loop μ-loop
+shift-line-requires c κs =
+    let v = c .before .before .before .before .pre .0 in
+    let s = c .before .before .before .before .args .t1 in
+    let i = c .before .before .loop .i in
+    let one-more : s .left ≡ suc (s .left - 1) = omega arith in
+    let r : Room (suc (s .left - 1)) (getD (s .lines) i blank) = subst (λ (k : ℕ). Room k (getD (s .lines) i blank)) one-more (room-at i v (omega arith)) in
+    rw (c .before .before .loop .inv .1, changed-at) (room-shifts (s .near) (omega (arith, v .sane .left)) (v .sane .near .most) r)
+
+mul-m : tie.Need-mul-m Inv-loop μ-loop
+mul-m c = search needs
+
+element-set-from-m : tie.Need-element-set-from-m Inv-loop μ-loop
+element-set-from-m c = search needs
+
+add-i : tie.Need-add-i Inv-loop μ-loop
+add-i c = search needs
+
+loop-less : tie.Need-loop-less Inv-loop μ-loop
+loop-less c = search needs
+
+loop-again : tie.Need-loop-again Inv-loop μ-loop
+loop-again c = let v = c .before .before .before .before .before .pre .0 in (omega arith, change-turn _ _ _ _ _ (c .before .before .before .loop .inv .1) (omega arith) (c .shift-line .ensures))
+
+returns : tie.Need-returns Inv-loop μ-loop
+returns c =
+    let s = c .before .before .before .args .t1 in
+    let all : c .before .loop .i ≡ s .count = omega arith in
+    rw (c .before .loop .inv .1, all) (all-shifted _ _ s (c .before .before .before .pre .0))
+
+pub shifted-spec : {M : Type 1} → statement M
+shifted-spec =
+    tie.close
+    (tie.spec
+    Inv-loop
+    μ-loop
+    sub-left
+    loop-holds
+    mul-l
+    element-copy-out-l
+    shift-line-requires
+    mul-m
+    element-set-from-m
+    add-i
+    loop-less
+    loop-again
+    returns)
