@@ -6,4 +6,5 @@ pub mod Due
 pub mod DueServed
 pub mod Named
 pub mod Asking
+pub mod Events
 pub mod Theorems

@@ -1,19 +1,24 @@
 -- Every session that is handed out is valid. Assumes nothing.
 use mathlib.Core.Path.{_≡_, refl}
-use mathlib.Core.List.{List, []}
+use mathlib.Core.List.{List, [], _∷_}
 use Prim.Native.Nat.{ℕ, _<_}
 use native.Mathlib.Omega.{arith}
-use lib.ListN.{length}
 use Rattle.method.specs.Types.{State, seconds}
-use Rattle.method.specs.Table.{Opening, opened, refused, opening}
-use Rattle.method.specs.CalledFor.{Done}
+use Rattle.method.specs.Table.{Opening, opened, opening}
+use Rattle.method.specs.Event.{read, Answer, accepted, refused, next}
+use Rattle.method.specs.CalledFor.{Done, Right, Answers}
+use Rattle.method.specs.Search.{answer, run}
 use Rattle.method.specs.Ranges.{Every, OpeningIn}
 use Rattle.method.specs.Sound.{Sound}
 use Rattle.method.proofs.Table.{accepted-table}
 use Rattle.method.proofs.Sane.{sane-opening}
-use Rattle.method.proofs.Answers.{sound-opening}
-use Rattle.corridor.specs.View.{view, put, no-session, opened-session, Valid}
-use Rattle.corridor.proofs.Views.{valid-put}
+use Rattle.method.proofs.Answers.{sound-opening, next-sound, run-right}
+use Rattle.method.proofs.Later.{sane-next}
+use Rattle.corridor.specs.declared.Session.{Session}
+use Rattle.corridor.specs.View.{view, no-session, opened-session, Valid}
+use Rattle.corridor.specs.Reply.{reply-of}
+use Rattle.corridor.proofs.Views.{view-length, valid-put}
+use Rattle.corridor.proofs.Events.{next-length}
 
 valid-none : Valid no-session
 valid-none =
@@ -44,4 +49,15 @@ valid-open b = go (opening b) (λ s q. accepted-table b s q .state) (λ s q. sou
   where
     go : (x : Opening) → ((s : State) → x ≡ opened s → OpeningIn s) → ((s : State) → x ≡ opened s → Sound s) → Valid (opened-session x .session)
     go (opened s) i o = unfold opened-session in valid-put no-session s refl (i s refl .count .most) (sane-opening s (i s refl)) (o s refl)
-    go (refused why line) i o = unfold opened-session in valid-none
+    go (Opening.refused why line) i o = unfold opened-session in valid-none
+
+-- An event hands back a valid session, also where it is refused.
+pub valid-event : (s : Session) (b : List ℕ) → Valid s → Valid (reply-of s (read b) (answer (view s) (read b)) .session)
+valid-event s b v = go (answer (view s) (read b)) (unfold run Answers in run-right (view s) (b ∷ []) (v .sound) .0)
+  where
+    go : (a : Answer) → Right (view s) (read b) a → Valid (reply-of s (read b) a .session)
+    go (accepted cs) r =
+        unfold reply-of in
+        valid-put s (next (view s) (read b) (accepted cs)) (v .full) (omega (arith, next-length (view s) (read b) cs, view-length v, v .few))
+        (sane-next (view s) (v .sane) (v .sound .exact) b (accepted cs) r) (next-sound (view s) (read b) (accepted cs) (v .sound) r)
+    go (refused why) r = unfold reply-of in v
