@@ -12,7 +12,7 @@ use Rattle.numbers.proofs.Arrays.{passing, all-passed}
 use Rattle.method.specs.Types.{State, blank}
 use Rattle.method.specs.Ranges.{HoldsIn}
 use Rattle.method.specs.Search.{due-of, ahead, sooner, passed, earliest, in-time, next-due}
-use Rattle.line.proofs.Rooms.{room-passes}
+use Rattle.holds.proofs.Rooms.{room-passes}
 use Rattle.corridor.specs.Names.{Side, Up, Down, Seconds, Hold, Idle, Since, Holds, Line, Due, Found, Nothing, At}
 use Rattle.corridor.specs.declared.Session.{Session}
 use Rattle.corridor.specs.View.{view, Ranged}

@@ -18,8 +18,8 @@ use Rattle.method.specs.Search.{serve, answer}
 use Rattle.method.specs.Ranges.{PriceIn, EventIn}
 use Rattle.method.proofs.Demands.{by-cond}
 use Rattle.method.proofs.Events.{read-in}
-use Rattle.line.specs.Asks.{Pressed}
-use Rattle.line.proofs.Rooms.{room-quotes}
+use Rattle.holds.specs.Asks.{Pressed}
+use Rattle.holds.proofs.Rooms.{room-quotes}
 use Rattle.corridor.specs.Names.{Seconds, Millionths, Line, ShiftLine, Quote, Event, Damaged, Tick, Quoted, EventAnswer, EventReason}
 use Rattle.corridor.specs.declared.Session.{Session}
 use Rattle.corridor.specs.declared.Served.{Served}

@@ -55,7 +55,7 @@ impl Session {
         for i in 0..n {
             let l = self.lines[i];
             let h = l.holds;
-            best = line::due::passed(wait, i, h, best);
+            best = holds::due::passed(wait, i, h, best);
         }
         match e {
             Event::Damaged => self.refused(EventReason::Malformed),
@@ -66,7 +66,7 @@ impl Session {
                 if t.0 < clock.0 {
                     return self.refused(EventReason::BeforeClock);
                 }
-                match line::due::in_time(t, end, self.left, best) {
+                match holds::due::in_time(t, end, self.left, best) {
                     Found::Nothing => {
                         self.clock = t;
                         Reply {
@@ -115,11 +115,11 @@ impl Session {
                 if !not_crossed(bid, ask) {
                     return self.refused(EventReason::Crossed);
                 }
-                match line::due::in_time(t, end, self.left, best) {
+                match holds::due::in_time(t, end, self.left, best) {
                     Found::Nothing => {
                         let near = self.near;
                         let l = self.lines[place];
-                        let m = line::shift::quoted_line(near, self.left, q, l);
+                        let m = holds::shift::quoted_line(near, self.left, q, l);
                         self.lines[place] = m;
                         self.clock = t;
                         Reply {
@@ -135,7 +135,7 @@ impl Session {
                         let shifts = r.shifts;
                         let near = s.near;
                         let l = s.lines[place];
-                        let m = line::shift::quoted_line(near, s.left, q, l);
+                        let m = holds::shift::quoted_line(near, s.left, q, l);
                         s.lines[place] = m;
                         s.clock = t;
                         Reply {

@@ -24,7 +24,7 @@ impl Session {
         let left = self.left - 1;
         for i in 0..n {
             let l = self.lines[i];
-            let m = line::shift::shift_line(near, left, side, now, l);
+            let m = holds::shift::shift_line(near, left, side, now, l);
             self.lines[i] = m;
         }
         self.left = left;
@@ -46,14 +46,14 @@ impl Session {
             let mut i: usize = 0;
             let call = loop {
                 if i == n {
-                    match line::due::in_time(t, end, self.left, best) {
+                    match holds::due::in_time(t, end, self.left, best) {
                         Found::Nothing => break 'serving,
                         Found::At(c) => break c,
                     }
                 }
                 let l = self.lines[i];
                 let h = l.holds;
-                best = line::due::passed(wait, i, h, best);
+                best = holds::due::passed(wait, i, h, best);
                 i = i + 1;
             };
             let place = call.place;

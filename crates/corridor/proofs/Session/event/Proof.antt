@@ -12,7 +12,7 @@ use Rattle.corridor.specs.View.{view}
 use Rattle.corridor.proofs.Views.{view-length, ranged}
 use Rattle.corridor.proofs.Due.{Passed, row-passes, passed-turn, searched}
 use Rattle.corridor.proofs.DueServed.{idle}
-use Rattle.corridor.proofs.Named.{Named, named-known, named-below, Unnamed, unnamed-start, unnamed-turn, unnamed-hit, unnamed-none}
+use Rattle.corridor.proofs.Named.{Named, named-known, named-below, Unnamed, unnamed-start, walk-met, walk-turn, walk-all}
 use Rattle.corridor.proofs.Events.{refused-damaged, behind-time, Timed, tick-is-timed, quote-is-timed, refused-late, refused-early, timely, refused-unknown, refused-crossed, tick-taken, quote-asks, quote-taken, quote-in}
 use Rattle.corridor.proofs.Session.event.Statement.{statement}
 use Rattle.corridor.proofs.Session.event.Tie as tie
@@ -24,7 +24,7 @@ abbrev μ-loop : tie.MeasureT-loop
 μ-loop bytes self n wait end clock e best₀ i₀ best i = n - i
 
 abbrev Inv-loop2 : tie.InvT-loop2
-Inv-loop2 bytes self n end best q t id p₀ p = (p ≤ n) × Unnamed id n (self .lines) p
+Inv-loop2 bytes self n end best q t id p₀ p = (p ≤ n) × Unnamed id (view self .lines) p
 
 abbrev μ-loop2 : tie.MeasureT-loop2
 μ-loop2 bytes self n end best q t id p₀ p = n - p
@@ -52,7 +52,7 @@ quote-on-time c = timely (c .before .before .before .before .before .before .bef
 named : (c : tie.Then6 Inv-loop μ-loop Inv-loop2 μ-loop2) → Named (c .before .before .before .before .before .before .before .before .before .before .before .before .before .e2 .given .0 .0 .id) (view (c .before .before .before .before .before .before .before .before .before .before .before .before .before .before .before .before .before .before .before .before .before .before .args .t1) .lines) (c .before .before .before .before .loop2 .p)
 named c =
     let v = c .before .before .before .before .before .before .before .before .before .before .before .before .before .before .before .before .before .before .before .before .before .before .pre in
-    unnamed-hit _ (c .before .before .before .before .before .before .before .before .before .before .before .before .before .before .before .before .before .before .before .before .before .before .args .t1 .count) (c .before .before .before .before .before .before .before .before .before .before .before .before .before .before .before .before .before .before .before .before .before .before .args .t1 .lines) (c .before .before .before .before .loop2 .p) (omega arith) (omega arith) (c .if6 .taken) (c .before .before .before .before .loop2 .inv .1)
+    walk-met (c .before .before .before .before .before .before .before .before .before .before .before .before .before .before .before .before .before .before .before .before .before .before .args .t1) _ (c .before .before .before .before .loop2 .p) v (c .before .before .before .before .loop2 .inv .1) (omega arith) (c .if6 .taken)
 
 below : (c : tie.Then6 Inv-loop μ-loop Inv-loop2 μ-loop2) → c .before .before .before .before .loop2 .p < c .before .before .before .before .before .before .before .before .before .before .before .before .before .before .before .before .before .before .before .before .before .before .args .t1 .count
 below c = omega (arith, named-below _ _ _ (named c), view-length (c .before .before .before .before .before .before .before .before .before .before .before .before .before .before .before .before .before .before .before .before .before .before .pre))
@@ -139,7 +139,7 @@ returns-4 : tie.Need-returns-4 Inv-loop μ-loop Inv-loop2 μ-loop2
 returns-4 c = c .refused5 .ensures ∙ refused-early (c .before .before .before .before .before .before .before .before .before .before .before .before .before .before .before .before .before .before .args .t1) (quote-timed (c .before .before .before .before .before .before .before .before)) (c .before .before .before .before .if3 .left) (c .before .if4 .taken)
 
 loop2-holds : tie.Need-loop2-holds Inv-loop μ-loop Inv-loop2 μ-loop2
-loop2-holds c = (omega arith, unnamed-start _ _ _)
+loop2-holds c = (omega arith, unnamed-start _ _)
 
 refused-requires-6 : tie.Need-refused-requires-6 Inv-loop μ-loop Inv-loop2 μ-loop2
 refused-requires-6 c κs = search needs
@@ -149,7 +149,7 @@ returns-5 c =
     let v = c .before .before .before .before .before .before .before .before .before .before .before .before .before .before .before .before .before .before .before .before .pre in
     c .refused6 .ensures
     ∙ refused-unknown (c .before .before .before .before .before .before .before .before .before .before .before .before .before .before .before .before .before .before .before .before .args .t1) (read (now (c .before .before .before .before .before .before .before .before .before .before .before .before .before .before .before .before .before .before .before .before .args .bytes))) _ (quote-said (c .before .before .before .before .before .before .before .before .before .before)) (quote-on-time (c .before .before .before))
-    (unnamed-none _ (c .before .before .before .before .before .before .before .before .before .before .before .before .before .before .before .before .before .before .before .before .args .t1 .count) (c .before .before .before .before .before .before .before .before .before .before .before .before .before .before .before .before .before .before .before .before .args .t1 .lines) (c .before .before .loop2 .p) (c .before .if5 .taken) (omega arith) (c .before .before .loop2 .inv .1))
+    (walk-all (c .before .before .before .before .before .before .before .before .before .before .before .before .before .before .before .before .before .before .before .before .args .t1) _ (c .before .before .loop2 .p) v (c .before .before .loop2 .inv .1) (c .before .if5 .taken))
 
 mul-l-2 : tie.Need-mul-l-2 Inv-loop μ-loop Inv-loop2 μ-loop2
 mul-l-2 c = let v = c .before .before .before .before .before .before .before .before .before .before .before .before .before .before .before .before .before .before .before .pre in omega arith
@@ -166,7 +166,7 @@ loop2-less c = search needs
 loop2-again : tie.Need-loop2-again Inv-loop μ-loop Inv-loop2 μ-loop2
 loop2-again c =
     let v = c .before .before .before .before .before .before .before .before .before .before .before .before .before .before .before .before .before .before .before .before .before .before .pre in
-    (omega arith, unnamed-turn _ (c .before .before .before .before .before .before .before .before .before .before .before .before .before .before .before .before .before .before .before .before .before .before .args .t1 .count) (c .before .before .before .before .before .before .before .before .before .before .before .before .before .before .before .before .before .before .before .before .before .before .args .t1 .lines) (c .before .before .before .before .loop2 .p) (omega arith) (omega arith) (c .if6 .left) (c .before .before .before .before .loop2 .inv .1))
+    (omega arith, walk-turn (c .before .before .before .before .before .before .before .before .before .before .before .before .before .before .before .before .before .before .before .before .before .before .args .t1) _ (c .before .before .before .before .loop2 .p) v (c .before .before .before .before .loop2 .inv .1) (omega arith) (c .if6 .left))
 
 not-crossed-requires : tie.Need-not-crossed-requires Inv-loop μ-loop Inv-loop2 μ-loop2
 not-crossed-requires c κs = search needs

@@ -5,7 +5,9 @@ use native.Mathlib.Omega.{arith}
 use Rattle.corridor.specs.Names.{ReportAnswer}
 use Rattle.corridor.specs.View.{view}
 use Rattle.corridor.proofs.Named.{Unnamed, unnamed-start, walk-met, walk-turn, walk-all}
-use Rattle.corridor.proofs.Asking.{report-met, report-unmet, room-at}
+use Rattle.corridor.proofs.Views.{ranged}
+use Rattle.corridor.proofs.Rows.{room-at}
+use Rattle.corridor.proofs.Asking.{report-met, report-unmet}
 use Rattle.corridor.proofs.Session.report.Statement.{statement}
 use Rattle.corridor.proofs.Session.report.Tie as tie
 
@@ -28,7 +30,7 @@ line-report-requires : tie.Need-line-report-requires Inv-loop μ-loop
 line-report-requires c κs =
     let start = c .before .before .before .before .before .before .before .before in
     let at = c .before .before .before .before .before .before .before .loop in
-    (start .pre .sane .hold .most, room-at (start .args .t1) (at .i) (start .pre) (c .before .before .before .before .before .before .loop-test .taken))
+    (start .pre .sane .hold .most, room-at (at .i) (ranged (start .pre)) (c .before .before .before .before .before .before .loop-test .taken))
 
 returns : tie.Need-returns Inv-loop μ-loop
 returns c =

@@ -7,7 +7,7 @@ use lib.ListN.{getD}
 use Rattle.method.specs.Types.{blank}
 use Rattle.method.specs.Ranges.{Room}
 use Rattle.method.specs.Shift.{shift-line}
-use Rattle.line.proofs.Rooms.{room-shifts}
+use Rattle.holds.proofs.Rooms.{room-shifts}
 use Rattle.corridor.proofs.Rows.{changed, changed-at, room-at}
 use Rattle.corridor.proofs.Shifting.{with-rows, change-turn, all-shifted}
 use Rattle.corridor.proofs.Session.shifted.Statement.{statement}
