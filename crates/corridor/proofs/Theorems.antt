@@ -1,9 +1,11 @@
--- Every session that is handed out is valid. Assumes nothing.
+-- Every session that is handed out is valid, and a refusal says paper 01's number. Assumes nothing.
 use mathlib.Core.Path.{_≡_, refl}
 use mathlib.Core.List.{List, [], _∷_}
 use Prim.Native.Nat.{ℕ, _<_}
 use native.Mathlib.Omega.{arith}
+use lib.IntN.{pos}
 use Rattle.method.specs.Types.{State, seconds}
+use Rattle.method.specs.Refusals.{table-number, event-number, table-said, event-said}
 use Rattle.method.specs.Table.{Opening, opened, opening}
 use Rattle.method.specs.Event.{read, Answer, accepted, refused, next}
 use Rattle.method.specs.CalledFor.{Done, Right, Answers}
@@ -14,6 +16,7 @@ use Rattle.method.proofs.Table.{accepted-table}
 use Rattle.method.proofs.Sane.{sane-opening}
 use Rattle.method.proofs.Answers.{sound-opening, next-sound, run-right}
 use Rattle.method.proofs.Later.{sane-next}
+use Rattle.corridor.specs.Names.{TableReason, EventReason}
 use Rattle.corridor.specs.declared.Session.{Session}
 use Rattle.corridor.specs.View.{view, no-session, opened-session, Valid}
 use Rattle.corridor.specs.Reply.{reply-of}
@@ -61,3 +64,14 @@ valid-event s b v = go (answer (view s) (read b)) (unfold run Answers in run-rig
         valid-put s (next (view s) (read b) (accepted cs)) (v .full) (omega (arith, next-length (view s) (read b) cs, view-length v, v .few))
         (sane-next (view s) (v .sane) (v .sound .exact) b (accepted cs) r) (next-sound (view s) (read b) (accepted cs) (v .sound) r)
     go (refused why) r = unfold reply-of in v
+
+-- ---- what a refusal says: its number, and of a table its line
+pub open-says : (b : List ℕ) (why : TableReason) (line : ℕ) → opening b ≡ Opening.refused why line
+    → table-said (opened-session (opening b) .answer) ≡ record { number = table-number why; values = pos line ∷ [] }
+unfolding opened-session table-said
+open-says b why line e = rw e refl
+
+pub event-says : (s : Session) (b : List ℕ) (why : EventReason) → answer (view s) (read b) ≡ refused why
+    → event-said (reply-of s (read b) (answer (view s) (read b)) .answer) ≡ record { number = event-number why; values = [] }
+unfolding reply-of event-said
+event-says s b why e = rw e refl

@@ -13,7 +13,6 @@ pub use Rattle.method.specs.declared.ShiftLine.{ShiftLine}
 pub use Rattle.method.specs.declared.Due.{Due}
 pub use Rattle.method.specs.declared.Found.{Found}
 pub use Rattle.method.specs.declared.Found.the-variants.{Nothing, At}
-pub use Rattle.method.specs.declared.Quote.{Quote}
 pub use Rattle.method.specs.declared.Event.{Event}
 pub use Rattle.method.specs.declared.Event.the-variants.{Damaged, Tick, Quoted}
 pub use Rattle.method.specs.declared.TableAnswer.{TableAnswer}

@@ -11,9 +11,9 @@ use method::TableAnswer;
 use numbers::Millionths;
 use numbers::Seconds;
 
+pub mod event;
 pub mod questions;
 pub mod report;
-pub mod event;
 pub mod serving;
 
 // The table's lines stand in the first `count` places, in its order. `left` is how many shifts may still be made.

@@ -32,7 +32,7 @@ impl Session {
     }
 
     // Every hold that is due at or before t is served. A shift ends holds and starts others, so the search starts anew after each.
-    pub fn served(mut self, t: Seconds) -> Served
+    pub(crate) fn served(mut self, t: Seconds) -> Served
         requires { ⌜ Valid self ⌝ }
         ensures { λ r. ⌜ r ≡ served-as self (serve (self .left) t (view self)) ⌝ }
     {
