@@ -21,7 +21,7 @@ use Rattle.method.proofs.Table.{accepted-table}
 use Rattle.method.proofs.Exact.{exact-opened, exact-applied}
 use Rattle.method.proofs.Events.{not-accepted, on-time}
 use Rattle.method.proofs.HoldLife.{Judged, no-since, blank-idle, applied-life, life-since}
-use Rattle.method.proofs.Serving.{serve-calls, calls-unique, calls-rising, after-kept, after-judged, after-left, calls-left, calls-done, calls-timely}
+use Rattle.method.proofs.Serving.{serve-calls, calls-unique, calls-rising, Kept, after-kept, after-judged, after-left, calls-left, calls-done, calls-timely}
 
 -- ---- a session is sound at opening
 opened-idle : (side : Side) (ls : List Line) (n : ℕ) → Every Opened ls → hold-of side (getD ls n blank .holds) ≡ Idle
@@ -74,17 +74,11 @@ applied-left Damaged s = refl
 applied-left (Tick t) s = refl
 applied-left (Quoted q) s = refl
 
-applied-end : (e : Event) (s : State) → applied e s .end ≡ s .end
+applied-kept : (e : Event) (s : State) → Kept s (applied e s)
 unfolding applied
-applied-end Damaged s = refl
-applied-end (Tick t) s = refl
-applied-end (Quoted q) s = refl
-
-applied-hold : (e : Event) (s : State) → applied e s .hold ≡ s .hold
-unfolding applied
-applied-hold Damaged s = refl
-applied-hold (Tick t) s = refl
-applied-hold (Quoted q) s = refl
+applied-kept Damaged s = record { end = refl; hold = refl; near = refl }
+applied-kept (Tick t) s = record { end = refl; hold = refl; near = refl }
+applied-kept (Quoted q) s = record { end = refl; hold = refl; near = refl }
 
 applied-clock : (e : Event) (s r : State) → verdict r e ≡ EventAnswer.Accepted → applied e s .clock ≡ time e
 unfolding applied verdict
@@ -98,11 +92,11 @@ unfolding Done
 applied-done e s w h d x k q = go (life-since _ _ (applied-life e s (x .side) (x .place) h) (k .held))
   where
     due : x .second .0 ≡ k .start .0 + s .hold .0
-    due = rw applied-hold at (k .due)
+    due = rw (applied-kept e s .hold) at (k .due)
 
     go : (k .start ≡ time e) ⊎ (hold-at (x .side) s (x .place) ≡ Since (k .start)) → time e .0 < x .second .0
     go (inl p) = let p′ : k .start .0 ≡ time e .0 = ap (λ (z : Seconds). z .0) p in omega (arith, due)
-    go (inr p) = d x (record { start = k .start; held = p; due = due }) (rw applied-end at q)
+    go (inr p) = d x (record { start = k .start; held = p; due = due }) (rw (applied-kept e s .end) at q)
 
 pub next-done : (s : State) (e : Event) (cs : List ShiftLine) → Sound s → Right s e (accepted cs) → Done (time e) (next s e (accepted cs))
 unfolding next Right
@@ -118,7 +112,7 @@ pub next-sound : (s : State) (e : Event) (a : Answer) → Sound s → Right s e 
 next-sound s e (refused why) v r = unfold next in v
 next-sound s e (accepted cs) v r =
     record {
-      waits = unfold next in rw (applied-hold e (after cs s), after-kept cs s .hold) (v .waits);
+      waits = unfold next in rw (applied-kept e (after cs s) .hold, after-kept cs s .hold) (v .waits);
       exact = unfold next in exact-applied e (after cs s) (after-judged cs s (v .exact));
       served = unfold Done in λ x h q. rw (next-clock s e cs r) (unfold Done in next-done s e cs v r x h q);
     }
@@ -129,13 +123,16 @@ sound-reached s [] rs v h = v
 sound-reached s (b ∷ bs) [] v h = v
 sound-reached s (b ∷ bs) (a ∷ rs) v h = sound-reached (next s (read b) a) bs rs (next-sound s (read b) a v (h .0)) (h .1)
 
-pub end-reached : (s : State) (bs : List (List ℕ)) (rs : List Answer) → reached s bs rs .end ≡ s .end
+pub kept-reached : (s : State) (bs : List (List ℕ)) (rs : List Answer) → Kept s (reached s bs rs)
 unfolding reached next
-end-reached s [] rs = refl
-end-reached s (b ∷ bs) [] = refl
-end-reached s (b ∷ bs) (refused why ∷ rs) = end-reached s bs rs
-end-reached s (b ∷ bs) (accepted cs ∷ rs) =
-    end-reached (next s (read b) (accepted cs)) bs rs ∙ applied-end (read b) (after cs s) ∙ after-kept cs s .end
+kept-reached s [] rs = record { end = refl; hold = refl; near = refl }
+kept-reached s (b ∷ bs) [] = record { end = refl; hold = refl; near = refl }
+kept-reached s (b ∷ bs) (refused why ∷ rs) = kept-reached s bs rs
+kept-reached s (b ∷ bs) (accepted cs ∷ rs) =
+    let k = kept-reached (next s (read b) (accepted cs)) bs rs in
+    let a = applied-kept (read b) (after cs s) in
+    let c = after-kept cs s in
+    record { end = k .end ∙ a .end ∙ c .end; hold = k .hold ∙ a .hold ∙ c .hold; near = k .near ∙ a .near ∙ c .near }
 
 -- ---- the run's answers are right, and no others are
 pub run-right : (s : State) (bs : List (List ℕ)) → Sound s → Answers s bs (run s bs)

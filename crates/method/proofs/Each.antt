@@ -6,7 +6,7 @@ use lib.Dec.{eqb}
 use Rattle.method.specs.Types.{Millionths, Line, Quote}
 use Rattle.method.specs.Event.{quoted-line, quoted}
 use Rattle.method.specs.Ranges.{Every}
-use Rattle.method.specs.Rule3Words.{Each}
+use Rattle.method.specs.Rule2Words.{Each}
 
 pub each-same : (P : Line → Type 0) (R : Line → Line → Type 0) → ((l : Line) → P l → R l l) → (ls : List Line) → Every P ls → Each R ls ls
 unfolding Every Each

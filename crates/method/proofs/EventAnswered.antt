@@ -150,11 +150,11 @@ module _ (s : State) (b : List ℕ) where
       (λ k. unknown-id r i (known-not (word b 4) (s .lines) k)))
 
   -- ---- the other way round
-  read-tick-is : IsTick b → read b ≡ Tick (the-time b)
+  pub read-tick-is : IsTick b → read b ≡ Tick (the-time b)
   unfolding read read-tick
   read-tick-is r = rw (eq-eqb _ _ (r .whole), eq-eqb _ _ (r .flags), tick-test b r)
 
-  read-quote-is : IsQuote b → read b ≡ Quoted (the-quote b)
+  pub read-quote-is : IsQuote b → read b ≡ Quoted (the-quote b)
   unfolding read read-quote
   read-quote-is r = rw (eq-eqb _ _ (r .whole), ne-eqb (word b 8) 4 (λ e. omega (arith, e, r .flags)), quote-test b r)
 

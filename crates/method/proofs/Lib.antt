@@ -29,6 +29,7 @@ pub mod Sane
 pub mod ShiftedLine
 pub mod Later
 pub mod Reached
+pub mod Books
 pub mod Rule1
 pub mod Rule2
 pub mod Rule3

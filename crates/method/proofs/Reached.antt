@@ -11,7 +11,8 @@ use Rattle.method.specs.Shift.{shift-line, shifted, onward}
 use Rattle.method.specs.Event.{quoted-line, read, applied}
 use Rattle.method.specs.Ranges.{Every, Opened, OpeningIn, Room}
 use Rattle.method.specs.Later.{Later, start, shift, event}
-use Rattle.method.specs.Rule3Words.{alike, count, Each, Shifted}
+use Rattle.method.specs.Rule2Words.{Each}
+use Rattle.method.specs.Rule3Words.{alike, count, Shifted}
 use Rattle.method.proofs.Each.{each-same, each-map, each-quoted}
 use Rattle.method.proofs.Redrawn.{Wider}
 use Rattle.method.proofs.ShiftedLine.{shifted-start, shifted-once-more, shifted-quoted, wider-shifted}

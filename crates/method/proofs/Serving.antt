@@ -159,11 +159,12 @@ calls-rising t s (c ∷ cs) w h = (
 pub record Kept (s r : State) : Type 0 where
   pub end : r .end ≡ s .end
   pub hold : r .hold ≡ s .hold
+  pub near : r .near ≡ s .near
 
 pub after-kept : (cs : List ShiftLine) (s : State) → Kept s (after cs s)
 unfolding after shifted
-after-kept [] s = record { end = refl; hold = refl }
-after-kept (c ∷ cs) s = let k = after-kept cs (onward s c) in record { end = k .end; hold = k .hold }
+after-kept [] s = record { end = refl; hold = refl; near = refl }
+after-kept (c ∷ cs) s = let k = after-kept cs (onward s c) in record { end = k .end; hold = k .hold; near = k .near }
 
 pub after-judged : (cs : List ShiftLine) (s : State) → Judged s → Judged (after cs s)
 unfolding after

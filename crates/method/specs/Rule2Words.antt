@@ -1,16 +1,20 @@
--- The words of rule 2, over right answers (`CalledFor`): who calls for a shift, since when it has pressed, what order and what a hold's life is.
+-- The words of rule 2, over right answers (`CalledFor`): what becomes of a book and of what the table fixed, who calls for a shift, since when
+-- it has pressed, what order and what a hold's life is.
 use mathlib.Core.Path.{_≡_}
 use mathlib.Core.Bool.{Bool, true, false}
 use mathlib.Core.List.{List, [], _∷_, _++_, List·Memᴰ}
 use Prim.Native.Nat.{ℕ, _+_, _≤_, _<_}
 use lib.ListN.{length, getD}
-use Rattle.method.specs.Types.{Side, Up, Down, Seconds, Hold, Idle, Since, Event, ShiftLine, Due, State, blank}
+use lib.IntN.{ℤ}
+use Rattle.method.specs.Types.{Header, Side, Up, Down, Seconds, Price, Absent, Given, Book, Hold, Idle, Since, Line, Event, ShiftLine, Due, State, steps, blank}
+use Rattle.method.specs.Wire.{word, signed, bit}
 use Rattle.method.specs.Table.{opening, opened}
 use Rattle.method.specs.Pressure.{presses, hold-of}
 use Rattle.method.specs.Shift.{onward, after}
 use Rattle.method.specs.Event.{read, Answer, accepted, refused, next}
 use Rattle.method.specs.CalledFor.{time, Right, Answers, reached}
 use Rattle.method.specs.Ranges.{Every}
+use Rattle.method.specs.Rule1Words.{IsQuote}
 
 -- ---- whom a statement speaks of, in rules 2 and 3
 -- "After any list of events, refused ones among them, from an accepted table": o is the state that the table opens, bs are any byte strings,
@@ -22,6 +26,40 @@ AfterAny Q = (table : List ℕ) (o : State) → opening table ≡ opened o → (
 abbrev pub AnyAccepted : (State → Event → List ShiftLine → Type 0) → Type 0
 AnyAccepted Q =
     AfterAny (λ table o past told. (b : List ℕ) (cs : List ShiftLine) → Right (reached o past told) (read b) (accepted cs) → Q (reached o past told) (read b) cs)
+
+-- a relation between two lists of lines, line by line
+unfoldable pub Each : (Line → Line → Type 0) → List Line → List Line → Type 0
+Each R [] [] = Unit {0}
+Each R [] (l ∷ ls) = ⊥
+Each R (o ∷ os) [] = ⊥
+Each R (o ∷ os) (l ∷ ls) = R o l × Each R os ls
+
+-- ---- the book
+-- the standing price that a price field says: there where its flag says present, and else absent
+pub record PriceSaid (present : Bool) (z : ℤ) (p : Price) : Type 0 where
+  pub given : present ≡ true → p ≡ Given (steps z)
+  pub absent : present ≡ false → p ≡ Absent
+
+pub record BookSaid (b : List ℕ) (k : Book) : Type 0 where
+  pub bid : PriceSaid (bit 0 (word b 8)) (signed (word b 12)) (k .bid)
+  pub ask : PriceSaid (bit 1 (word b 8)) (signed (word b 16)) (k .ask)
+
+-- b is a quote of the line
+pub record Quotes (b : List ℕ) (l : Line) : Type 0 where
+  pub quote : IsQuote b
+  pub id : l .terms .id ≡ word b 4
+
+-- From the line l before the accepted event b to the same line n after it: "a quote .. replaces both standing prices of its contract". A tick,
+-- or a quote of another line, leaves the book as it was.
+pub record BookLife (b : List ℕ) (l n : Line) : Type 0 where
+  pub replaced : Quotes b l → BookSaid b (n .book)
+  pub stays : (Quotes b l → ⊥) → n .book ≡ l .book
+
+-- ---- what the table fixed for the whole session
+pub record Fixed (h : Header) (s : State) : Type 0 where
+  pub end : s .end ≡ h .end
+  pub hold : s .hold ≡ h .hold
+  pub near : s .near ≡ h .near
 
 -- ---- who calls
 -- the hold of the line at a place (from 0) on a side, and whether that line presses there; past the last line neither is

@@ -9,7 +9,7 @@ use Rattle.method.specs.Types.{Side, Up, Down, Steps, Line, ShiftLine}
 use Rattle.method.specs.Bounds.{bound}
 use Rattle.method.specs.Opening.{permits-negative}
 use Rattle.method.specs.CalledFor.{reached, joined}
-use Rattle.method.specs.Rule2Words.{AfterAny}
+use Rattle.method.specs.Rule2Words.{AfterAny, Each}
 
 -- how many shift lines of a list are of a side
 abbrev pub alike : Side → Side → ℕ
@@ -21,13 +21,6 @@ alike Down Down = 1
 unfoldable pub count : Side → List ShiftLine → ℕ
 count side [] = 0
 count side (c ∷ cs) = alike side (c .side) + count side cs
-
--- a relation between two lists of lines, line by line
-unfoldable pub Each : (Line → Line → Type 0) → List Line → List Line → Type 0
-Each R [] [] = Unit {0}
-Each R [] (l ∷ ls) = ⊥
-Each R (o ∷ os) [] = ⊥
-Each R (o ∷ os) (l ∷ ls) = R o l × Each R os ls
 
 -- "After any list of events ..": of every line o of the opening and the same line l after u upward and d downward shifts, as many as the
 -- list calls for

@@ -8,7 +8,7 @@ use mathlib.Core.List.{List, [], _∷_, _++_, map}
 use mathlib.Core.Logic.{_↔_}
 use Prim.Native.Nat.{ℕ, suc, _+_, _-_, _≤_, _<_}
 use lib.ListN.{length, take}
-use Rattle.method.specs.Types.{Side, Up, Down, Seconds, Key, Contract, Line, ShiftLine, Due, State, Row, TableReason, EventReason, EventAnswer}
+use Rattle.method.specs.Types.{Side, Up, Down, Seconds, Key, Contract, Line, ShiftLine, Due, State, Row, TableReason, EventReason, EventAnswer, seconds}
 use Rattle.method.specs.Wire.{word}
 use Rattle.method.specs.Table.{header-of, table-length, Opening, opened, refused, opening-state, opening}
 use Rattle.method.specs.Shift.{onward, after}
@@ -16,7 +16,7 @@ use Rattle.method.specs.Event.{read, verdict, Answer, accepted, next}
 use Rattle.method.specs.CalledFor.{Stands, Done, Calls, time, Right, Answers, reached, joined}
 use Rattle.method.specs.Search.{run, finally}
 use Rattle.method.specs.Program.{program}
-use Rattle.method.specs.Ranges.{HeaderIn, KeyIn, KeysIn, Every}
+use Rattle.method.specs.Ranges.{HeaderIn, KeyIn, KeysIn, empty-book, Every}
 use Rattle.method.specs.Later.{Later}
 use Rattle.method.specs.Rule1Words.{
   Laid,
@@ -35,8 +35,8 @@ use Rattle.method.specs.Rule1Words.{
   IsCrossed,
   Struck,
 }
-use Rattle.method.specs.Rule2Words.{AfterAny, AnyAccepted, hold-at, presses-at, CalledFor, Reported, Rising, Answered, Life, remaining}
-use Rattle.method.specs.Rule3Words.{count, Each, EachLine, Centre, HalfWidths, inside, FloorMet, Lower, Shifted, Outward, StaysFrozen}
+use Rattle.method.specs.Rule2Words.{AfterAny, AnyAccepted, Each, BookLife, Fixed, hold-at, presses-at, CalledFor, Reported, Rising, Answered, Life, remaining}
+use Rattle.method.specs.Rule3Words.{count, EachLine, Centre, HalfWidths, inside, FloorMet, Lower, Shifted, Outward, StaysFrozen}
 
 -- ==== RULE 1
 -- ---- "Every table .., however damaged, gets an answer."
@@ -120,6 +120,34 @@ RightAnswers =
 abbrev pub SessionReached : Type 0
 SessionReached = (s : State) (bs : List (List ℕ)) → finally s bs ≡ reached s bs (run s bs)
 
+-- What pressure is judged by. "Each contract starts with an empty book, the clock at 0." (rule2-at-opening)
+abbrev pub EmptyAtOpening : Type 0
+EmptyAtOpening =
+    (table : List ℕ) (o : State) → opening table ≡ opened o → Every (λ l. l .book ≡ empty-book) (o .lines) × (o .clock ≡ seconds 0)
+
+-- A shift leaves the book of every line. (rule2-books-over-a-shift)
+abbrev pub BookOverShift : Type 0
+BookOverShift = (s : State) (c : ShiftLine) → Each (λ l n. n .book ≡ l .book) (s .lines) (onward s c .lines)
+
+-- Over an accepted event, its shifts included, the book of the line that it quotes becomes the bid and the ask of its fields, and the book
+-- of every other line stays. (rule2-books)
+abbrev pub BookOverEvent : Type 0
+BookOverEvent =
+    AfterAny (λ table o past told. (b : List ℕ) (cs : List ShiftLine)
+    → let s : State = reached o past told in
+    Right s (read b) (accepted cs) → Each (BookLife b) (s .lines) (next s (read b) (accepted cs) .lines))
+
+-- "Then the event is applied and the clock set to t." That a refused one leaves the clock is in rule 1. (rule2-clock)
+abbrev pub ClockSet : Type 0
+ClockSet =
+    AfterAny (λ table o past told. (b : List ℕ) (cs : List ShiftLine)
+    → let s : State = reached o past told in
+    Right s (read b) (accepted cs) → next s (read b) (accepted cs) .clock ≡ seconds (word b 0))
+
+-- Session end, hold seconds and near share are the table's, after any events. (rule2-table-kept)
+abbrev pub TableKept : Type 0
+TableKept = AfterAny (λ table o bs rs. Fixed (header-of table) (reached o bs rs))
+
 -- ---- "every shift that the events call for is made at its due second"
 -- After an accepted event no hold is left that is due at or before its time and before session end. (rule2-nothing-left)
 abbrev pub NothingLeft : Type 0
@@ -175,6 +203,10 @@ EachLineReported = AfterAny (λ table o bs rs. Every (Reported o bs rs) (joined 
 -- The shift lines and the shifts left add up to the table's number. (rule2-count)
 abbrev pub ShiftsCounted : Type 0
 ShiftsCounted = AfterAny (λ table o bs rs. length (joined rs) + reached o bs rs .left ≡ header-of table .most)
+
+-- "An accepted event answers with 0 to 16 shift lines" (paper 01). (rule2-at-most-sixteen)
+abbrev pub AtMostSixteen : Type 0
+AtMostSixteen = AnyAccepted (λ s e cs. length cs ≤ 16)
 
 -- ==== RULE 3: "After any list of events, refused ones among them, from an accepted table:"
 -- The shifts counted are those of right answers, so that they are the shifts that rule 2 calls for.

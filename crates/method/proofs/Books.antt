@@ -1,0 +1,171 @@
+-- What becomes of the books: a shift leaves them, a quote replaces one. An accepted table's ids differ, so it is one line's. Assumes nothing.
+use mathlib.Core.Path.{_≡_, refl, sym, ap, _∙_, subst}
+use mathlib.Core.Bool.{Bool, true, false, cond, true≢false, false≢true}
+use mathlib.Core.List.{List, [], _∷_, _++_, map, append-assoc}
+use Prim.Native.Nat.{ℕ, _-_}
+use native.Mathlib.Omega.{arith}
+use lib.Dec.{eqb}
+use lib.IntN.{ℤ}
+use borrow.Author.Tests.{eqb-true, eqb-false}
+use Rattle.method.specs.Types.{Millionths, Key, Contract, Line, ShiftLine, State, EventAnswer, seconds}
+use Rattle.method.specs.Wire.{word, signed, bit}
+use Rattle.method.specs.Opening.{terms-of, fresh-line}
+use Rattle.method.specs.Table.{opened, opening-state, opening}
+use Rattle.method.specs.Pressure.{judge}
+use Rattle.method.specs.Shift.{moved-line, shift-line, shifted, onward, after}
+use Rattle.method.specs.Event.{price-of, read, verdict, quoted-line, quoted, applied, Answer, accepted, next}
+use Rattle.method.specs.CalledFor.{time, Answers, reached}
+use Rattle.method.specs.Ranges.{Every}
+use Rattle.method.specs.Later.{start}
+use Rattle.method.specs.Rule1Words.{its-line, GoodAll, IsQuote}
+use Rattle.method.specs.Rule2Words.{Each, PriceSaid, Quotes, BookLife}
+use Rattle.method.specs.Rules.{TableAnswered, all-good, EventAnswered, tick-taken, quote-taken}
+use Rattle.method.proofs.Every.{every-all, every-middle}
+use Rattle.method.proofs.Each.{each-same, each-map, each-weaker}
+use Rattle.method.proofs.Table.{accepted-table}
+use Rattle.method.proofs.TableAnswered.{table-answered}
+use Rattle.method.proofs.EventAnswered.{the-quote, read-tick-is, read-quote-is, event-answered}
+use Rattle.method.proofs.Later.{moment-reached}
+use Rattle.method.proofs.Reached.{shifted-moment}
+
+-- ---- the ids of an accepted table differ
+abbrev pub ids : List Line → List ℕ
+ids ls = map (λ (l : Line). l .terms .id) ls
+
+unfoldable pub Apart : List ℕ → Type 0
+Apart [] = Unit {0}
+Apart (i ∷ is) = Every (λ j. j ≡ i → ⊥) is × Apart is
+
+module _ (shift : Millionths) (keys : List Key) where
+  -- no contract after c has its id
+  none-again : (xs : List Contract) (c : Contract) (ys cs : List Contract) → GoodAll shift keys (xs ++ c ∷ ys) cs
+      → Every (λ j. j ≡ c .id → ⊥) (ids (map (its-line shift keys) cs))
+  unfolding GoodAll Every fresh-line terms-of
+  none-again xs c ys [] g = tt
+  none-again xs c ys (d ∷ cs) g = (
+    λ e. every-middle (λ x. x .id ≡ d .id → ⊥) xs c ys (g .0 .id .new) (sym e),
+    none-again xs c (ys ++ (d ∷ [])) cs (subst (λ (es : List Contract). GoodAll shift keys es cs) (append-assoc xs (c ∷ ys) (d ∷ [])) (g .1)),
+  )
+
+  good-apart : (xs cs : List Contract) → GoodAll shift keys xs cs → Apart (ids (map (its-line shift keys) cs))
+  unfolding GoodAll Apart fresh-line terms-of
+  good-apart xs [] g = tt
+  good-apart xs (c ∷ cs) g = (none-again xs c [] cs (g .1), good-apart (xs ++ (c ∷ [])) cs (g .1))
+
+apart-opened : (table : List ℕ) (o : State) → opening table ≡ opened o → Apart (ids (o .lines))
+unfolding opening-state
+apart-opened table o e = go o (subst (TableAnswered table) e (table-answered table))
+  where
+    go : (s : State) → TableAnswered table (opened s) → Apart (ids (s .lines))
+    go s (all-good f k g) = good-apart _ _ [] _ g
+
+same-ids : (R : Line → Line → Type 0) → ((o l : Line) → R o l → l .terms ≡ o .terms) → (os ls : List Line) → Each R os ls → ids os ≡ ids ls
+unfolding Each
+same-ids R h [] [] rs = refl
+same-ids R h [] (l ∷ ls) rs = absurd rs
+same-ids R h (o ∷ os) [] rs = absurd rs
+same-ids R h (o ∷ os) (l ∷ ls) rs =
+    let head : o .terms .id ≡ l .terms .id = rw (h o l (rs .0)) in
+    let tail = same-ids R h os ls (rs .1) in
+    cc
+
+pub apart-reached : (table : List ℕ) (o : State) → opening table ≡ opened o → (bs : List (List ℕ)) (rs : List Answer) → Answers o bs rs
+    → Apart (ids (reached o bs rs .lines))
+apart-reached table o e bs rs h =
+    subst Apart
+    (same-ids _ (λ a l s. s .terms) (o .lines) (reached o bs rs .lines) (shifted-moment (accepted-table table o e .state) (moment-reached bs rs start h)))
+    (apart-opened table o e)
+
+-- ---- a shift leaves terms and book of every line
+pub record Alike (l n : Line) : Type 0 where
+  pub terms : n .terms ≡ l .terms
+  pub book : n .book ≡ l .book
+
+each-alike : (ls : List Line) → Each Alike ls ls
+each-alike ls = each-same (λ l. Unit {0}) Alike (λ l p. record { terms = refl; book = refl }) ls (every-all _ (λ l. tt) ls)
+
+-- the lines os, alike to those of a state, are alike to those of the shifted state
+alike-once-more : (os : List Line) (s : State) (c : ShiftLine) → Each Alike os (s .lines) → Each Alike os (onward s c .lines)
+unfolding shifted shift-line judge moved-line
+alike-once-more os s c rs =
+    each-map (λ l. Unit {0}) Alike Alike (shift-line (s .near) (s .left - 1) (c .side) (c .second))
+    (λ o l p a. record { terms = a .terms; book = a .book }) os (s .lines) (every-all _ (λ l. tt) (s .lines)) rs
+
+pub alike-onward : (s : State) (c : ShiftLine) → Each Alike (s .lines) (onward s c .lines)
+alike-onward s c = alike-once-more (s .lines) s c (each-alike (s .lines))
+
+alike-after : (os : List Line) (cs : List ShiftLine) (s : State) → Each Alike os (s .lines) → Each Alike os (after cs s .lines)
+unfolding after
+alike-after os [] s rs = rs
+alike-after os (c ∷ cs) s rs = alike-after os cs (onward s c) (alike-once-more os s c rs)
+
+-- ---- a quote
+price-said : (present : Bool) (z : ℤ) → PriceSaid present z (price-of present z)
+price-said true z = record { given = λ e. refl; absent = λ e. absurd (true≢false e) }
+price-said false z = record { given = λ e. absurd (false≢true e); absent = λ e. refl }
+
+untouched : (b : List ℕ) (l n : Line) → (Quotes b l → ⊥) → Alike l n → BookLife b l n
+untouched b l n other a = record { replaced = λ q. absurd (other q); stays = λ z. a .book }
+
+-- lines whose id is not the quote's
+others : (b : List ℕ) (os ls : List Line) → Every (λ j. j ≡ word b 4 → ⊥) (ids ls) → Each Alike os ls → Each (BookLife b) os ls
+unfolding Each Every
+others b [] [] ps rs = tt
+others b [] (l ∷ ls) ps rs = rs
+others b (o ∷ os) [] ps rs = rs
+others b (o ∷ os) (l ∷ ls) ps rs = (untouched b o l (λ q. ps .0 (ap (λ t. t .id) (rs .0 .terms) ∙ q .id)) (rs .0), others b os ls (ps .1) (rs .1))
+
+module _ (near : Millionths) (left : ℕ) (b : List ℕ) (quote : IsQuote b) where
+  quoted-book : (o l : Line) → o .terms .id ≡ word b 4 → BookLife b o (quoted-line near left (the-quote b) l)
+  unfolding quoted-line judge
+  quoted-book o l e =
+      record {
+        replaced = λ q. record { bid = price-said (bit 0 (word b 8)) (signed (word b 12)); ask = price-said (bit 1 (word b 8)) (signed (word b 16)) };
+        stays = λ other. absurd (other (record { quote = quote; id = e }));
+      }
+
+  quoted-books : (os ls : List Line) → Apart (ids ls) → Each Alike os ls → Each (BookLife b) os (quoted near left (the-quote b) ls)
+  unfolding Each Apart quoted
+  quoted-books [] [] ps rs = tt
+  quoted-books [] (l ∷ ls) ps rs = absurd rs
+  quoted-books (o ∷ os) [] ps rs = rs
+  quoted-books (o ∷ os) (l ∷ ls) ps rs = go (eqb (l .terms .id) (word b 4)) refl (quoted-books os ls (ps .1) (rs .1))
+    where
+      same : l .terms .id ≡ o .terms .id
+      same = ap (λ t. t .id) (rs .0 .terms)
+
+      go : (mine : Bool) → eqb (l .terms .id) (word b 4) ≡ mine → Each (BookLife b) os (quoted near left (the-quote b) ls)
+          → Each (BookLife b) (o ∷ os) (cond mine (quoted-line near left (the-quote b) l ∷ ls) (l ∷ quoted near left (the-quote b) ls))
+      go true e more =
+          let its : l .terms .id ≡ word b 4 = eqb-true _ _ e in
+          (quoted-book o l (sym same ∙ its), others b os ls (rw its at (ps .0)) (rs .1))
+      go false e more = (untouched b o l (λ q. eqb-false _ _ e (same ∙ q .id)) (rs .0), more)
+
+-- ---- an accepted event
+module _ (s : State) (b : List ℕ) where
+  taken : verdict s (read b) ≡ EventAnswer.Accepted → EventAnswered s b EventAnswer.Accepted
+  taken v = subst (EventAnswered s b) v (event-answered s b)
+
+  pub books-over : (cs : List ShiftLine) → Apart (ids (s .lines)) → verdict s (read b) ≡ EventAnswer.Accepted
+      → Each (BookLife b) (s .lines) (next s (read b) (accepted cs) .lines)
+  unfolding next applied
+  books-over cs ps v = go (taken v)
+    where
+      rs : Each Alike (s .lines) (after cs s .lines)
+      rs = alike-after (s .lines) cs s (each-alike (s .lines))
+
+      go : EventAnswered s b EventAnswer.Accepted → Each (BookLife b) (s .lines) (applied (read b) (after cs s) .lines)
+      go (tick-taken t i) =
+          rw (read-tick-is s b t)
+          (each-weaker Alike (BookLife b) (λ o l a. untouched b o l (λ q. omega (arith, t .flags, q .quote .flags)) a) (s .lines) (after cs s .lines) rs)
+      go (quote-taken q i k c) =
+          rw (read-quote-is s b q)
+          (quoted-books (after cs s .near) (after cs s .left) b q (s .lines) (after cs s .lines)
+          (subst Apart (same-ids Alike (λ o l a. a .terms) (s .lines) (after cs s .lines) rs) ps) rs)
+
+  pub accepted-time : verdict s (read b) ≡ EventAnswer.Accepted → time (read b) ≡ seconds (word b 0)
+  accepted-time v = go (taken v)
+    where
+      go : EventAnswered s b EventAnswer.Accepted → time (read b) ≡ seconds (word b 0)
+      go (tick-taken t i) = rw (read-tick-is s b t)
+      go (quote-taken q i k c) = rw (read-quote-is s b q)
