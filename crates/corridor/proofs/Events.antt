@@ -55,15 +55,14 @@ behind-time s (Quoted q) =
 -- e is a tick or a quote of the time t
 pub record Timed (s : State) (e : Event) (t : Seconds) : Type 0 where
   pub tested : verdict s e ≡ in-session s t (behind-time s e)
-  pub at : time e ≡ t
 
 pub tick-is-timed : (s : State) (e : Event) (t : Seconds) → e ≡ Tick t → Timed s e t
 tick-is-timed s e t said =
-    subst (λ (z : Event). Timed s z t) (sym said) (record { tested = unfold verdict in refl; at = refl })
+    subst (λ (z : Event). Timed s z t) (sym said) (record { tested = unfold verdict in refl })
 
 pub quote-is-timed : (s : State) (e : Event) (q : Quote) → e ≡ Quoted q → Timed s e (q .time)
 quote-is-timed s e q said =
-    subst (λ (z : Event). Timed s z (q .time)) (sym said) (record { tested = unfold verdict in refl; at = refl })
+    subst (λ (z : Event). Timed s z (q .time)) (sym said) (record { tested = unfold verdict in refl })
 
 module _ (s : Session) {e : Event} {t : Seconds} (timed : Timed (view s) e t) where
   pub refused-late : s .end .0 < t .0 → refused-with s EventReason.AfterEnd ≡ reply s e
@@ -88,7 +87,7 @@ module _ (s : Session) (e : Event) (q : Quote) (said : e ≡ Quoted q) (on-time 
   pub refused-crossed : known (q .id) (view s .lines) ≡ true → not-crossed (q .bid) (q .ask) ≡ false → refused-with s EventReason.Crossed ≡ reply s e
   refused-crossed k x = refused-by s e EventReason.Crossed (behind ∙ (rw (k, x)))
 
--- ---- taken: what is due is served first
+-- ---- taken: what is due is served first, and the event applied then
 abbrev taken : Session → Event → List ShiftLine → Reply
 taken s e cs =
     record { answer = EventAnswer.Accepted; shifts = padded 16 no-shift cs; made = length cs; session = put s (applied e (after cs (view s))) }
@@ -118,7 +117,7 @@ put-set : (s : Session) (x : State) (p : ℕ) (m : Line) (t : Seconds) → p < l
 put-set s x p m t h = rw (set-append-left (x .lines) (drop (length (x .lines)) (s .lines)) p m h, length-set (x .lines) p m)
 
 module _ (s : Session) (q : Quote) (p : ℕ) (named : Named (q .id) (view s .lines) p) where
-  -- what a quote asks of the line, and what is read of it, in the session served
+  -- what a quote asks of its line, in the session served
   pub quote-asks : (r : Served) → Valid s → PriceIn (q .bid) × PriceIn (q .ask) → r ≡ served-as s (serve (s .left) (q .time) (view s))
       → Pressed (r .session .near) (with-book (getD (r .session .lines) p blank) (q .bid) (q .ask))
   quote-asks r v i er = rw er (go (ranged-served s (q .time) v))
