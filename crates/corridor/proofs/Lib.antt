@@ -8,3 +8,4 @@ pub mod Named
 pub mod Asking
 pub mod Events
 pub mod Theorems
+pub mod Feeding

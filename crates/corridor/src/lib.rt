@@ -12,6 +12,7 @@ use numbers::Millionths;
 use numbers::Seconds;
 
 pub mod event;
+pub mod feed;
 pub mod questions;
 pub mod report;
 pub mod serving;
@@ -46,6 +47,18 @@ pub struct Reply {
     pub answer: EventAnswer,
     pub shifts: [ShiftLine; 16],
     pub made: usize,
+    pub session: Session,
+}
+
+// The answer to a buffer of events: how many numbers were written, or how many the lent buffer would have to take, and nothing done.
+pub enum FeedAnswer {
+    Written(usize),
+    NoRoom(usize),
+}
+
+// The answer to a buffer of events, and beside it the session.
+pub struct Fed {
+    pub answer: FeedAnswer,
     pub session: Session,
 }
 

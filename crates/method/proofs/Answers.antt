@@ -217,7 +217,7 @@ answers-rising s (b ∷ bs) (accepted cs ∷ rs) v h =
     (answers-rising n bs rs w (h .1))
 
 -- ---- the count
-next-count : (s : State) (e : Event) (a : Answer) → Sound s → Right s e a → length (lines-of a) + next s e a .left ≡ s .left
+pub next-count : (s : State) (e : Event) (a : Answer) → Sound s → Right s e a → length (lines-of a) + next s e a .left ≡ s .left
 unfolding next
 next-count s e (refused why) v r = omega arith
 next-count s e (accepted cs) v r =

@@ -45,7 +45,7 @@ module _ (out : List ℤ) (at : ℕ) (xs : List ℤ) (room : at + length xs ≤ 
       (rw (append-assoc (take at out) xs ys, add-assoc at (length xs) (length ys)))
 
 -- ---- shift lines, row by row
-row-long : (r : Row) → length (row-numbers r) ≡ 6
+pub row-long : (r : Row) → length (row-numbers r) ≡ 6
 unfolding row-numbers
 row-long (Row.Shift c) = refl
 row-long (Row.RefusedEvent why) = refl

@@ -1,0 +1,54 @@
+-- A buffer of events fed to a session, and their answers as rows of numbers in a lent buffer.
+use mathlib.Core.Path.{_≡_}
+use mathlib.Core.Bool.{cond}
+use mathlib.Core.List.{List, [], _∷_, map}
+use Prim.Native.Nat.{ℕ, _+_, _*_, _/_, _≤_, _<_}
+use lib.Dec.{ltb}
+use lib.IntN.{ℤ}
+use lib.ListN.{length, take}
+use Rattle.method.specs.Types.{State}
+use Rattle.method.specs.Search.{run, finally}
+use Rattle.method.specs.Program.{rows-of-all, events-of, numbers-of}
+use Rattle.method.specs.declared.Row.{Row}
+use Rattle.method.specs.declared.Row.the-variants as Row
+use Rattle.rows.specs.Buffer.{written}
+use Rattle.corridor.specs.Names.{ShiftLine, EventAnswer}
+use Rattle.corridor.specs.declared.Session.{Session}
+use Rattle.corridor.specs.declared.FeedAnswer.{FeedAnswer}
+use Rattle.corridor.specs.declared.Fed.{Fed}
+use Rattle.corridor.specs.View.{view, put}
+
+-- The numbers that the answers to so many bytes may come to: six a row, a row for each event, and one for each of the 16 shifts that a session
+-- makes at most.
+abbrev pub room : ℕ → ℕ
+room size = 6 * ((size + 19) / 20 + 16)
+
+-- an event of the buffer from one place to the next: 20 bytes, or what is left
+pub record Cut (from size to : ℕ) : Type 0 where
+  pub on : from < to
+  pub inside : to ≤ size
+  pub whole : from + 20 ≤ size → to ≡ from + 20
+  pub short : size ≤ from + 20 → to ≡ size
+
+-- the rows of a reply
+abbrev pub rows-count : EventAnswer → ℕ → ℕ
+rows-count EventAnswer.Accepted made = made
+rows-count (EventAnswer.Refused why) made = 1
+
+abbrev pub reply-rows : EventAnswer → List ShiftLine → ℕ → List Row
+reply-rows EventAnswer.Accepted shifts made = map Row.Shift (take made shifts)
+reply-rows (EventAnswer.Refused why) shifts made = Row.RefusedEvent why ∷ []
+
+-- all answers in numbers
+abbrev pub answers-told : State → List (List ℕ) → List ℤ
+answers-told s events = numbers-of (rows-of-all (run s events))
+
+-- what is handed back for the bytes b and a buffer of so many numbers
+unfoldable pub fed : Session → ℕ → List ℕ → Fed
+fed s size b =
+    cond (ltb size (room (length b))) (record { answer = FeedAnswer.NoRoom (room (length b)); session = s })
+    (record { answer = FeedAnswer.Written (length (answers-told (view s) (events-of b))); session = put s (finally (view s) (events-of b)) })
+
+-- what the buffer holds then
+unfoldable pub fed-into : Session → List ℤ → List ℕ → List ℤ
+fed-into s out b = cond (ltb (length out) (room (length b))) out (written out 0 (answers-told (view s) (events-of b)))
