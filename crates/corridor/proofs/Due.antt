@@ -31,17 +31,17 @@ pub passed-turn : (wait : Seconds) (n : ℕ) (rows : List Line) (i : ℕ) (best 
 unfolding earliest
 passed-turn wait n rows i best more h g e p = rw (e, add-one) (rw (passing i n rows blank h g) at p)
 
-passed-all : (wait : Seconds) (n : ℕ) (rows : List Line) (best : Found) → n ≤ length rows → Passed wait n rows n best
+pub passed-all : (wait : Seconds) (n : ℕ) (rows : List Line) (i : ℕ) (best : Found) → n ≤ length rows → i ≡ n → Passed wait n rows i best
     → best ≡ earliest wait 0 (take n rows) Nothing
 unfolding earliest
-passed-all wait n rows best g p = rw (all-passed n rows g) at p
+passed-all wait n rows i best g e p = rw (e, all-passed n rows g) at p
 
 -- all rows passed: what is in time is the next hold of the method
 pub searched : (s : Session) (t wait end : Seconds) (n i : ℕ) (best d : Found) → s .count ≡ n → s .hold ≡ wait → s .end ≡ end → n ≤ length (s .lines)
     → i ≡ n → Passed wait n (s .lines) i best → d ≡ in-time t end (s .left) best → next-due t (view s) ≡ d
 unfolding next-due
 searched s t wait end n i best d en ew ee g p q e =
-    let b = passed-all wait n (s .lines) best g (subst (λ (k : ℕ). Passed wait n (s .lines) k best) p q) in
+    let b = passed-all wait n (s .lines) i best g p q in
     rw (e, b, en, ew, ee)
 
 -- ---- the hold that is found stands at a place of the table

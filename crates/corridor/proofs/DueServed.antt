@@ -22,7 +22,7 @@ use Rattle.corridor.proofs.Shifting.{shifted-length, after-length, afte
 use Rattle.corridor.proofs.Due.{Passed, searched, Next, next-is}
 
 -- ---- one step of serving
-serve-stop : (n : ℕ) (t : Seconds) (s : State) → next-due t s ≡ Nothing → serve n t s ≡ []
+pub serve-stop : (n : ℕ) (t : Seconds) (s : State) → next-due t s ≡ Nothing → serve n t s ≡ []
 unfolding serve
 serve-stop zero t s e = refl
 serve-stop (suc n) t s e = rw e
@@ -116,10 +116,15 @@ module _ {t : Seconds} {s₀ : Session} {n : ℕ} {wait end : Seconds} {s : Sess
       })
 
 -- ---- the session that is served
--- where nothing is due it is the session as it stands
-pub idle : (s : Session) (t : Seconds) → Valid s → next-due t (view s) ≡ Nothing
+pub served-path : {shifts shifts′ : List ShiftLine} {made made′ : ℕ} {session session′ : Session} → shifts ≡ shifts′ → made ≡ made′ → session ≡ session′
+    → _≡_ {A = Served} (record { shifts = shifts; made = made; session = session }) (record { shifts = shifts′; made = made′; session = session′ })
+served-path a b c = λ i. record { shifts = a i; made = b i; session = c i }
+
+-- where nothing is served it is the session as it stands
+pub idle : (s : Session) (t : Seconds) → Valid s → serve (s .left) t (view s) ≡ []
     → _≡_ {A = Served} (record { shifts = replicate 16 no-shift; made = 0; session = s }) (served-as s (serve (s .left) t (view s)))
-idle s t v e = going-end (going-start t s v) e
+unfolding after
+idle s t v e = rw e (served-path refl refl (sym (put-view v)))
 
 pub ranged-served : (s : Session) (t : Seconds) → Valid s → Ranged (put s (after (serve (s .left) t (view s)) (view s)))
 ranged-served s t v =

@@ -1,99 +1,50 @@
 -- Feeding a buffer of events: what has been told and what is still ahead make up the method's answers. Assumes nothing.
 use mathlib.Core.Path.{_≡_, refl, sym, ap, _∙_}
-use mathlib.Core.Bool.{Bool, true, false}
+use mathlib.Core.Bool.{true}
 use mathlib.Core.List.{List, [], _∷_, _++_, map, append-assoc, append-nil}
-use mathlib.Core.Logic.{_⊎_, inl, inr}
-use Prim.Native.Nat.{ℕ, suc, _+_, _*_, _-_, _/_, _≤_, _<_}
-use native.Mathlib.Nat.{eq-zero-or-pos}
+use Prim.Native.Nat.{ℕ, _+_, _*_, _-_, _/_, _≤_, _<_}
 use native.Mathlib.Omega.{arith}
 use borrow.Author.Tests.{lt-ltb, le-ltb}
 use lib.Dec.{ltb}
 use lib.IntN.{ℤ}
-use lib.ListN.{length, take, drop, length-append, length-drop, length-map, drop-of-length-le}
-use lib.Seq.{take-all, drop-drop, drop-length}
-use Rattle.numbers.specs.Arrays.{padded}
+use lib.ListN.{length, take, drop, length-append, length-drop, length-map}
+use lib.Seq.{drop-length}
 use Rattle.numbers.proofs.Arrays.{padded-take}
 use Rattle.method.specs.Types.{State}
 use Rattle.method.specs.Event.{read, Answer, accepted, refused, next}
 use Rattle.method.specs.CalledFor.{Right, Answers}
 use Rattle.method.specs.Search.{answer, run, finally}
-use Rattle.method.specs.Program.{rows-of, rows-of-all, pieces, events-of, row-numbers, numbers-of}
+use Rattle.method.specs.Program.{rows-of, rows-of-all, pieces, events-of, numbers-of}
 use Rattle.method.specs.declared.Row.{Row}
 use Rattle.method.specs.declared.Row.the-variants as Row
 use Rattle.method.proofs.Answers.{next-count, run-right}
 use Rattle.rows.specs.Buffer.{written}
-use Rattle.rows.proofs.Buffer.{nothing-written, written-on, written-long, row-long}
-use Rattle.corridor.specs.Names.{Event, ShiftLine, EventAnswer, EventReason}
+use Rattle.rows.proofs.Buffer.{nothing-written, written-on, written-long, numbers-long, numbers-append}
+use Rattle.corridor.specs.Names.{Event, ShiftLine, EventAnswer}
 use Rattle.corridor.specs.declared.Session.{Session}
 use Rattle.corridor.specs.declared.Reply.{Reply}
 use Rattle.corridor.specs.declared.FeedAnswer.{FeedAnswer}
 use Rattle.corridor.specs.View.{view, put, Valid}
 use Rattle.corridor.specs.Reply.{no-shift, reply-of}
-use Rattle.corridor.specs.Feeding.{room, Cut, rows-count, reply-rows, answers-told, fed, fed-into}
-use Rattle.corridor.proofs.Views.{view-put, put-put, put-view, view-length}
+use Rattle.corridor.specs.Feeding.{room, answers-told, fed, fed-into}
+use Rattle.corridor.proofs.Views.{view-put, put-put, put-view}
 use Rattle.corridor.proofs.Events.{next-length}
 use Rattle.corridor.proofs.Theorems.{valid-event}
+use Rattle.corridor.proofs.Cutting.{first-event, Cut, cut-piece, cut-rest, fewer}
 
--- ---- rows in numbers
-numbers-append : (rs qs : List Row) → numbers-of (rs ++ qs) ≡ numbers-of rs ++ numbers-of qs
-numbers-append [] qs = refl
-numbers-append (r ∷ rs) qs = rw (numbers-append rs qs) (sym (append-assoc (row-numbers r) (numbers-of rs) (numbers-of qs)))
+-- ---- the rows of a reply
+abbrev rows-count : EventAnswer → ℕ → ℕ
+rows-count EventAnswer.Accepted made = made
+rows-count (EventAnswer.Refused why) made = 1
 
-numbers-long : (rs : List Row) → length (numbers-of rs) ≡ 6 * length rs
-numbers-long [] = refl
-numbers-long (r ∷ rs) = omega (arith, length-append (row-numbers r) (numbers-of rs), row-long r, numbers-long rs)
+abbrev reply-rows : EventAnswer → List ShiftLine → ℕ → List Row
+reply-rows EventAnswer.Accepted shifts made = map Row.Shift (take made shifts)
+reply-rows (EventAnswer.Refused why) shifts made = Row.RefusedEvent why ∷ []
 
 told-first : (s : State) (b : List ℕ) (bs : List (List ℕ))
     → answers-told s (b ∷ bs) ≡ numbers-of (rows-of (answer s (read b))) ++ answers-told (next s (read b) (answer s (read b))) bs
 unfolding run rows-of-all
 told-first s b bs = numbers-append (rows-of (answer s (read b))) (rows-of-all (run (next s (read b) (answer s (read b))) bs))
-
--- ---- the buffer cut into events
-more : (n : ℕ) → 0 < n → (n + 19) / 20 ≡ suc ((n - 20 + 19) / 20)
-more n h = omega arith
-
-first-event : (b : List ℕ) → 0 < length b → events-of b ≡ take 20 b ∷ events-of (drop 20 b)
-unfolding pieces
-first-event b h = rw (more (length b) h, length-drop 20 b)
-
-either : (m n : ℕ) → (m ≤ n) ⊎ (n ≤ m)
-either m n = go (eq-zero-or-pos (m - n))
-  where
-    go : (m - n ≡ 0) ⊎ (0 < m - n) → (m ≤ n) ⊎ (n ≤ m)
-    go (inl e) = inl (omega arith)
-    go (inr h) = inr (omega arith)
-
-module _ {from to : ℕ} (b : List ℕ) (c : Cut from (length b) to) where
-  long : length (drop from b) ≡ length b - from
-  long = length-drop from b
-
-  pub cut-piece : take (to - from) (drop from b) ≡ take 20 (drop from b)
-  cut-piece = go (either (from + 20) (length b))
-    where
-      go : (from + 20 ≤ length b) ⊎ (length b ≤ from + 20) → take (to - from) (drop from b) ≡ take 20 (drop from b)
-      go (inl h) =
-          let e = c .whole h in
-          let all : to - from ≡ 20 = omega arith in
-          ap (λ (n : ℕ). take n (drop from b)) all
-      go (inr h) =
-          let e = c .short h in
-          take-all (to - from) (drop from b) (omega (arith, long)) ∙ sym (take-all 20 (drop from b) (omega (arith, long)))
-
-  pub cut-rest : drop to b ≡ drop 20 (drop from b)
-  cut-rest = go (either (from + 20) (length b))
-    where
-      go : (from + 20 ≤ length b) ⊎ (length b ≤ from + 20) → drop to b ≡ drop 20 (drop from b)
-      go (inl h) = ap (λ (n : ℕ). drop n b) (c .whole h) ∙ sym (drop-drop 20 from b)
-      go (inr h) =
-          let e = c .short h in
-          drop-of-length-le b {i = to} (omega arith) ∙ sym (drop-of-length-le (drop from b) {i = 20} (omega (arith, long)))
-
-  pub fewer : (length b - to + 19) / 20 + 1 ≡ (length b - from + 19) / 20
-  fewer = go (either (from + 20) (length b))
-    where
-      go : (from + 20 ≤ length b) ⊎ (length b ≤ from + 20) → (length b - to + 19) / 20 + 1 ≡ (length b - from + 19) / 20
-      go (inl h) = let e = c .whole h in let k = c .on in omega arith
-      go (inr h) = let e = c .short h in let k = c .on in omega arith
 
 -- ---- a session's lines stay as many
 kept : (s : State) (e : Event) (a : Answer) → length (next s e a .lines) ≡ length (s .lines)

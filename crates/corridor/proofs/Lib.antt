@@ -5,7 +5,12 @@ pub mod Shifting
 pub mod Due
 pub mod DueServed
 pub mod Named
-pub mod Asking
+pub mod Gathered
+pub mod Saying
 pub mod Events
+pub mod Quiet
+pub mod Asking
 pub mod Theorems
+pub mod Cutting
 pub mod Feeding
+pub mod Turns

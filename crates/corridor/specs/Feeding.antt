@@ -1,18 +1,14 @@
 -- A buffer of events fed to a session, and their answers as rows of numbers in a lent buffer.
-use mathlib.Core.Path.{_≡_}
 use mathlib.Core.Bool.{cond}
-use mathlib.Core.List.{List, [], _∷_, map}
-use Prim.Native.Nat.{ℕ, _+_, _*_, _/_, _≤_, _<_}
+use mathlib.Core.List.{List}
+use Prim.Native.Nat.{ℕ, _+_, _-_, _*_, _/_}
 use lib.Dec.{ltb}
 use lib.IntN.{ℤ}
-use lib.ListN.{length, take}
+use lib.ListN.{length}
 use Rattle.method.specs.Types.{State}
 use Rattle.method.specs.Search.{run, finally}
 use Rattle.method.specs.Program.{rows-of-all, events-of, numbers-of}
-use Rattle.method.specs.declared.Row.{Row}
-use Rattle.method.specs.declared.Row.the-variants as Row
 use Rattle.rows.specs.Buffer.{written}
-use Rattle.corridor.specs.Names.{ShiftLine, EventAnswer}
 use Rattle.corridor.specs.declared.Session.{Session}
 use Rattle.corridor.specs.declared.FeedAnswer.{FeedAnswer}
 use Rattle.corridor.specs.declared.Fed.{Fed}
@@ -23,21 +19,9 @@ use Rattle.corridor.specs.View.{view, put}
 abbrev pub room : ℕ → ℕ
 room size = 6 * ((size + 19) / 20 + 16)
 
--- an event of the buffer from one place to the next: 20 bytes, or what is left
-pub record Cut (from size to : ℕ) : Type 0 where
-  pub on : from < to
-  pub inside : to ≤ size
-  pub whole : from + 20 ≤ size → to ≡ from + 20
-  pub short : size ≤ from + 20 → to ≡ size
-
--- the rows of a reply
-abbrev pub rows-count : EventAnswer → ℕ → ℕ
-rows-count EventAnswer.Accepted made = made
-rows-count (EventAnswer.Refused why) made = 1
-
-abbrev pub reply-rows : EventAnswer → List ShiftLine → ℕ → List Row
-reply-rows EventAnswer.Accepted shifts made = map Row.Shift (take made shifts)
-reply-rows (EventAnswer.Refused why) shifts made = Row.RefusedEvent why ∷ []
+-- where the event ends that begins at `from`: after 20 bytes, or with the buffer
+abbrev pub cut-at : ℕ → ℕ → ℕ
+cut-at from size = cond (ltb (size - from) 20) size (from + 20)
 
 -- all answers in numbers
 abbrev pub answers-told : State → List (List ℕ) → List ℤ

@@ -1,18 +1,18 @@
 // A whole buffer of events: their answers as rows of numbers, in a buffer that the caller lends.
 
 ghost use mathlib.Core.Path.{_≡_};
-ghost use Prim.Native.Nat.{_+_, _*_, _≤_, _<_};
+ghost use Prim.Native.Nat.{_≤_, _<_};
 ghost use lib.ListN.{length};
-ghost use Rattle.method.specs.Program.{numbers-of};
-ghost use Rattle.rows.specs.Buffer.{written};
 ghost use Rattle.corridor.specs.View.{Valid};
-ghost use Rattle.corridor.specs.Feeding.{room, Cut, rows-count, reply-rows, fed, fed-into};
+ghost use Rattle.corridor.specs.Quiet.{until};
+ghost use Rattle.corridor.specs.Feeding.{room, cut-at, fed, fed-into};
 use crate::Fed;
 use crate::FeedAnswer;
 use crate::Session;
-use method::EventAnswer;
 use method::Row;
-use method::ShiftLine;
+use numbers::Seconds;
+use verdict::Change;
+use verdict::Verdict;
 
 // An event gives a refusal's row or rows of shifts, and a session makes 16 shifts at most.
 fn room(size: usize) -> usize
@@ -28,7 +28,7 @@ fn room(size: usize) -> usize
 // Where the event that begins at `from` ends: after 20 bytes, or with the buffer.
 fn cut(from: usize, size: usize) -> usize
     requires { ⌜ from < size ⌝ }
-    ensures { λ r. ⌜ Cut from size r ⌝ }
+    ensures { λ r. ⌜ r ≡ cut-at from size ⌝ }
 {
     if size - from < 20 {
         return size;
@@ -36,31 +36,23 @@ fn cut(from: usize, size: usize) -> usize
     from + 20
 }
 
-// The rows of one answer; the result is the place after them.
-fn told(
-    out: &mut [i64],
-    at: usize,
-    answer: EventAnswer,
-    shifts: [ShiftLine; 16],
-    made: usize,
-) -> usize
-    requires { ⌜ (made ≤ 16) × (at + 6 * rows-count answer made ≤ length (now out)) ⌝ }
-    ensures { λ r. ⌜ r ≡ at + 6 * rows-count answer made ⌝ }
-    ensures { λ _. ⌜ now (out .exit) ≡ written (now (out .entry)) at (numbers-of (reply-rows answer shifts made)) ⌝ }
+// The nearer of two seconds: the one before which nothing is due so far, and the one at which a hold would fall due that starts at t.
+fn until(quiet: Seconds, t: Seconds, wait: Seconds) -> Seconds
+    requires { ⌜ (t .0 ≤ 172_800) × (wait .0 ≤ 3_600) ⌝ }
+    ensures { λ r. ⌜ r ≡ until quiet t wait ⌝ }
 {
-    match answer {
-        EventAnswer::Accepted => rows::write_shifts(out, at, shifts, made),
-        EventAnswer::Refused(why) => {
-            rows::write(out, at, Row::RefusedEvent(why));
-            at + 6
-        }
+    let due = t.0 + wait.0;
+    if due < quiet.0 {
+        return Seconds(due);
     }
+    quiet
 }
 
 impl Session {
     // Every event of the buffer in turn; a last one that is cut short is refused like any string that is no event. The room is worked out
-    // first: where it is not there, nothing is done.
-    pub fn feed(self, events: &[u8], out: &mut [i64]) -> Fed
+    // first: where it is not there, nothing is done. The session stays in its place: it goes by value only where a hold may be due, which
+    // is never before the second `quiet`.
+    pub fn feed(mut self, events: &[u8], out: &mut [i64]) -> Fed
         requires { ⌜ Valid self ⌝ }
         ensures { λ r. ⌜ r ≡ fed self (length (now (out .entry))) (now (events .entry)) ⌝ }
         ensures { λ _. ⌜ now (out .exit) ≡ fed-into self (now (out .entry)) (now (events .entry)) ⌝ }
@@ -73,21 +65,56 @@ impl Session {
                 session: self,
             };
         }
-        let mut session = self;
+        let n = self.count;
+        let mut ids: [u32; 32] = [0; 32];
+        for i in 0..n {
+            let l = self.lines[i];
+            ids[i] = l.terms.id;
+        }
+        let mut quiet = Seconds(0);
         let mut at: usize = 0;
         let mut from: usize = 0;
         while from < size {
             let to = cut(from, size);
-            let r = session.event(&events[from..to]);
-            let answer = r.answer;
-            let shifts = r.shifts;
-            at = told(out, at, answer, shifts, r.made);
-            session = r.session;
+            let e = wire::event::read(&events[from..to]);
             from = to;
+            let end = self.end;
+            let clock = self.clock;
+            match verdict::screen(&ids[..n], end, clock, e) {
+                Verdict::Refused(why) => {
+                    rows::write(out, at, Row::RefusedEvent(why));
+                    at = at + 6;
+                }
+                Verdict::Taken(v) => {
+                    let t = v.time;
+                    if quiet.0 <= t.0 {
+                        let r = self.served(t);
+                        let shifts = r.shifts;
+                        at = rows::write_shifts(out, at, shifts, r.made);
+                        self = r.session;
+                        quiet = self.quiet();
+                    }
+                    let wait = self.hold;
+                    quiet = until(quiet, t, wait);
+                    let change = v.change;
+                    match change {
+                        Change::Nothing => {}
+                        Change::Quote(p) => {
+                            let near = self.near;
+                            let q = p.quote;
+                            let place = p.place;
+                            let l = self.lines[place];
+                            let m = holds::shift::quoted_line(near, self.left, q, l);
+                            self.lines[place] = m;
+                        }
+                    }
+                    self.clock = t;
+                }
+            }
         }
         Fed {
             answer: FeedAnswer::Written(at),
-            session: session,
+            session: self,
         }
     }
 }

@@ -5,6 +5,7 @@ ghost use Prim.Native.Nat.{_<_};
 ghost use Rattle.method.specs.Shift.{shifted};
 ghost use Rattle.method.specs.Search.{serve};
 ghost use Rattle.corridor.specs.View.{view, put, Ranged, Valid};
+ghost use Rattle.corridor.specs.Quiet.{quiet-until};
 ghost use Rattle.corridor.specs.Reply.{served-as};
 use crate::Served;
 use crate::Session;
@@ -72,6 +73,25 @@ impl Session {
             shifts: shifts,
             made: made,
             session: self,
+        }
+    }
+
+    // The second of the hold that goes first; where none stands, one that no event reaches.
+    pub(crate) fn quiet(self) -> Seconds
+        requires { ⌜ Ranged self ⌝ }
+        ensures { λ r. ⌜ r ≡ quiet-until (view self) ⌝ }
+    {
+        let n = self.count;
+        let wait = self.hold;
+        let mut best = Found::Nothing;
+        for i in 0..n {
+            let l = self.lines[i];
+            let h = l.holds;
+            best = holds::due::passed(wait, i, h, best);
+        }
+        match best {
+            Found::Nothing => Seconds(4294967295),
+            Found::At(d) => d.second,
         }
     }
 }

@@ -74,7 +74,7 @@ applied-left Damaged s = refl
 applied-left (Tick t) s = refl
 applied-left (Quoted q) s = refl
 
-applied-kept : (e : Event) (s : State) → Kept s (applied e s)
+pub applied-kept : (e : Event) (s : State) → Kept s (applied e s)
 unfolding applied
 applied-kept Damaged s = record { end = refl; hold = refl; near = refl }
 applied-kept (Tick t) s = record { end = refl; hold = refl; near = refl }

@@ -9,7 +9,7 @@ use lib.IntN.{ℤ}
 use borrow.Author.Tests.{eqb-true, eqb-false}
 use Rattle.method.specs.Types.{Millionths, Key, Contract, Line, ShiftLine, State, EventAnswer, seconds}
 use Rattle.method.specs.Wire.{word, signed, bit}
-use Rattle.method.specs.Opening.{terms-of, fresh-line}
+use Rattle.method.specs.Opening.{ids, terms-of, fresh-line}
 use Rattle.method.specs.Table.{opened, opening-state, opening}
 use Rattle.method.specs.Pressure.{judge}
 use Rattle.method.specs.Shift.{moved-line, shift-line, shifted, onward, after}
@@ -29,9 +29,6 @@ use Rattle.method.proofs.Later.{moment-reached}
 use Rattle.method.proofs.Reached.{shifted-moment}
 
 -- ---- the ids of an accepted table differ
-abbrev pub ids : List Line → List ℕ
-ids ls = map (λ (l : Line). l .terms .id) ls
-
 unfoldable pub Apart : List ℕ → Type 0
 Apart [] = Unit {0}
 Apart (i ∷ is) = Every (λ j. j ≡ i → ⊥) is × Apart is

@@ -73,7 +73,7 @@ ahead-false x y p e = go (ltb (x .second .0) (y .second .0)) (ltb (y .second .0)
         ⊎-elim (λ s. lowest q s p) (λ o. up-first q (o .0) (o .1)) (not-outranked (x .side) (y .side) e)
 
 -- ---- the first of those that P holds of, or there is none
-unfoldable Least : (Due → Type 0) → Found → Type 0
+unfoldable pub Least : (Due → Type 0) → Found → Type 0
 Least P Nothing = (x : Due) → P x → ⊥
 Least P (At x) = P x × ((y : Due) → P y → Ahead x y)
 
@@ -166,7 +166,7 @@ earliest-least P wait n (l ∷ ls) best b p =
     (λ x. ⊎-elim (⊎-elim (λ k. let r = b x k in omega arith) (λ u. omega arith)) (λ d. omega arith))
     (passed-least P wait n (l .holds) best b p))
 
-first-of-all : (s : State) → Least (Stands s) (earliest (s .hold) 0 (s .lines) Nothing)
+pub first-of-all : (s : State) → Least (Stands s) (earliest (s .hold) 0 (s .lines) Nothing)
 first-of-all s =
     least-iff (λ x. ⊥ ⊎ From (s .hold) 0 (s .lines) x) (Stands s) (earliest (s .hold) 0 (s .lines) Nothing)
     (λ x. ⊎-elim (λ k. absurd k) (λ f. record { start = f .start; held = rw (f .place, zero-add) (f .held); due = f .due }))

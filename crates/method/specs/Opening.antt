@@ -1,6 +1,6 @@
 -- "Opening numbers, line by line" (paper 01), the rest: one contract opened from its ten fields, or refused with 5, 6, 7, 8 or 9.
 use mathlib.Core.Bool.{Bool, true, false, cond, not, _&&_, _||_}
-use mathlib.Core.List.{List, [], _∷_}
+use mathlib.Core.List.{List, [], _∷_, map}
 use Prim.Native.Nat.{ℕ}
 use lib.Dec.{ltb, leb, eqb}
 use lib.IntN.{ℤ, pos, natAbs, _+ℤ_, _-ℤ_, _*ℤ_}
@@ -56,6 +56,9 @@ fields-good c =
 unfoldable pub known : ℕ → List Line → Bool
 known id [] = false
 known id (l ∷ ls) = eqb (l .terms .id) id || known id ls
+
+abbrev pub ids : List Line → List ℕ
+ids ls = map (λ (l : Line). l .terms .id) ls
 
 unfoldable pub id-good : List Line → ℕ → Bool
 id-good earlier id = ltb 0 id && not (known id earlier)

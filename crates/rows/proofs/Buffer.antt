@@ -1,12 +1,12 @@
 -- A buffer that is written from a place on: number by number, and run after run. Assumes nothing.
 use mathlib.Core.Path.{_≡_, refl, sym, ap, _∙_}
-use mathlib.Core.List.{List, [], _∷_, _++_, map, append-assoc, append-nil}
+use mathlib.Core.List.{List, [], _∷_, _++_, map, append-assoc, append-nil, map-append}
 use Prim.Native.Nat.{ℕ, _+_, _*_, _<_, _≤_}
 use native.Mathlib.Omega.{arith}
 use native.Mathlib.Nat.{add-assoc}
 use native.Mathlib.Numerals.{add-one}
 use lib.IntN.{ℤ}
-use lib.ListN.{length, getD, set, take, drop, length-append, length-drop}
+use lib.ListN.{length, getD, set, take, drop, length-append, length-drop, length-map}
 use lib.Seq.{paste, paste-zero, paste-suc, take-suc, take-length, length-take-le, take-at, drop-at, drop-drop}
 use Rattle.method.specs.declared.Row.{Row}
 use Rattle.method.specs.declared.Row.the-variants as Row
@@ -44,7 +44,7 @@ module _ (out : List ℤ) (at : ℕ) (xs : List ℤ) (room : at + length xs ≤ 
       (take-at (take at out ++ xs) (drop (at + length xs) out) (at + length xs) head-long, rest-kept (length ys), length-append xs ys)
       (rw (append-assoc (take at out) xs ys, add-assoc at (length xs) (length ys)))
 
--- ---- shift lines, row by row
+-- ---- rows in numbers
 pub row-long : (r : Row) → length (row-numbers r) ≡ 6
 unfolding row-numbers
 row-long (Row.Shift c) = refl
@@ -52,28 +52,34 @@ row-long (Row.RefusedEvent why) = refl
 row-long (Row.RefusedTable why line) = refl
 row-long (Row.Closed c) = refl
 
-numbers-long : (cs : List ShiftLine) → length (numbers-of (map Row.Shift cs)) ≡ 6 * length cs
+pub numbers-long : (rs : List Row) → length (numbers-of rs) ≡ 6 * length rs
 numbers-long [] = refl
-numbers-long (c ∷ cs) =
-    omega (arith, length-append (row-numbers (Row.Shift c)) (numbers-of (map Row.Shift cs)), row-long (Row.Shift c), numbers-long cs)
+numbers-long (r ∷ rs) = omega (arith, length-append (row-numbers r) (numbers-of rs), row-long r, numbers-long rs)
 
-numbers-more : (cs : List ShiftLine) (c : ShiftLine)
-    → numbers-of (map Row.Shift (cs ++ (c ∷ []))) ≡ numbers-of (map Row.Shift cs) ++ row-numbers (Row.Shift c)
-numbers-more [] c = append-nil (row-numbers (Row.Shift c))
-numbers-more (d ∷ cs) c = rw (numbers-more cs c) (sym (append-assoc (row-numbers (Row.Shift d)) (numbers-of (map Row.Shift cs)) (row-numbers (Row.Shift c))))
+pub numbers-append : (rs qs : List Row) → numbers-of (rs ++ qs) ≡ numbers-of rs ++ numbers-of qs
+numbers-append [] qs = refl
+numbers-append (r ∷ rs) qs = rw (numbers-append rs qs) (sym (append-assoc (row-numbers r) (numbers-of rs) (numbers-of qs)))
 
+pub numbers-one : (r : Row) → numbers-of (r ∷ []) ≡ row-numbers r
+numbers-one r = append-nil (row-numbers r)
+
+-- ---- shift lines, row by row
 module _ (out : List ℤ) (at : ℕ) (cs : List ShiftLine) (i : ℕ) (more : i < length cs) (room : at + 6 * (i + 1) ≤ length out) where
   abbrev first : List ℤ
   first = numbers-of (map Row.Shift (take i cs))
 
   first-long : length first ≡ 6 * i
-  first-long = numbers-long (take i cs) ∙ ap (λ (n : ℕ). 6 * n) (length-take-le i cs (omega arith))
+  first-long =
+      numbers-long (map Row.Shift (take i cs)) ∙ ap (λ (n : ℕ). 6 * n) (length-map (take i cs) Row.Shift ∙ length-take-le i cs (omega arith))
 
   abbrev row : ShiftLine → List ℤ
   row z = row-numbers (Row.Shift (getD cs i z))
 
   joined : (z : ShiftLine) → first ++ row z ≡ numbers-of (map Row.Shift (take (i + 1) cs))
-  joined z = rw (add-one i, take-suc cs i z more) (sym (numbers-more (take i cs) (getD cs i z)))
+  joined z =
+      sym (ap (λ (n : ℕ). numbers-of (map Row.Shift (take n cs))) (add-one i) ∙ ap (λ (ds : List ShiftLine). numbers-of (map Row.Shift ds)) (take-suc cs i z more)
+      ∙ ap numbers-of (map-append Row.Shift (take i cs) (getD cs i z ∷ [])) ∙ numbers-append (map Row.Shift (take i cs)) (Row.Shift (getD cs i z) ∷ [])
+      ∙ ap (λ (ns : List ℤ). first ++ ns) (numbers-one (Row.Shift (getD cs i z))))
 
   -- the next shift line's row after those before it
   pub row-on : {now next : List ℤ} (z : ShiftLine) → now ≡ written out at first → next ≡ written now (at + 6 * i) (row z)

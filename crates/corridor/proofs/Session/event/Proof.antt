@@ -1,244 +1,171 @@
 -- `corridor::Session::event` meets its contract: any bytes of any length. Assumes nothing.
 use borrow.Author.Needs.{needs}
 use denote.Ref.{now}
-use mathlib.Core.Path.{_≡_, refl, sym, _∙_}
+use mathlib.Core.Path.{_≡_, refl, sym, ap, subst, _∙_}
+use mathlib.Core.Logic.{⊎-elim}
 use Prim.Native.Nat.{_≤_, _<_, _-_}
 use native.Mathlib.Omega.{arith}
-use Rattle.numbers.proofs.Tests.{failed, held}
-use Rattle.method.specs.Event.{read, verdict}
-use Rattle.method.specs.Search.{in-time, next-due}
-use Rattle.corridor.specs.Names.{Seconds, Found, Tick, Quoted}
+use lib.Seq.{length-take-le}
+use Rattle.method.specs.Event.{read}
+use Rattle.method.specs.Search.{next-due, serve}
+use Rattle.verdict.specs.declared.Change.{Change}
+use Rattle.corridor.specs.declared.Served.{Served}
 use Rattle.corridor.specs.View.{view}
+use Rattle.corridor.specs.Reply.{served-as}
 use Rattle.corridor.proofs.Views.{view-length, ranged}
 use Rattle.corridor.proofs.Due.{Passed, row-passes, passed-turn, searched}
-use Rattle.corridor.proofs.DueServed.{idle}
-use Rattle.corridor.proofs.Named.{Named, named-known, named-below, Unnamed, unnamed-start, walk-met, walk-turn, walk-all}
-use Rattle.corridor.proofs.Events.{refused-damaged, behind-time, Timed, tick-is-timed, quote-is-timed, refused-late, refused-early, timely, refused-unknown, refused-crossed, tick-taken, quote-asks, quote-taken, quote-in}
+use Rattle.corridor.proofs.DueServed.{serve-stop, served-path, idle}
+use Rattle.corridor.proofs.Named.{named-below}
+use Rattle.corridor.proofs.Gathered.{Gathered, gathered-none, gathered-turn, gathered-all}
+use Rattle.corridor.proofs.Saying.{Changes, Says, Takes, session-says}
+use Rattle.corridor.proofs.Events.{refused-is, quote-asks, quoted-in, event-taken, quote-in}
 use Rattle.corridor.proofs.Session.event.Statement.{statement}
 use Rattle.corridor.proofs.Session.event.Tie as tie
 
 abbrev Inv-loop : tie.InvT-loop
-Inv-loop bytes self n wait end clock e best₀ i₀ best i = (i ≤ n) × Passed wait n (self .lines) i best
+Inv-loop bytes self n wait end clock e ids₀ best₀ i₀ ids best i = (i ≤ n) × Passed wait n (self .lines) i best × Gathered (self .lines) i ids
 
 abbrev μ-loop : tie.MeasureT-loop
-μ-loop bytes self n wait end clock e best₀ i₀ best i = n - i
+μ-loop bytes self n wait end clock e ids₀ best₀ i₀ ids best i = n - i
 
-abbrev Inv-loop2 : tie.InvT-loop2
-Inv-loop2 bytes self n end best q t id p₀ p = (p ≤ n) × Unnamed id (view self .lines) p
-
-abbrev μ-loop2 : tie.MeasureT-loop2
-μ-loop2 bytes self n end best q t id p₀ p = n - p
-
--- ---- a tick: what the bytes say, and that its time is met
-tick-said : (c : tie.After-known-told Inv-loop μ-loop Inv-loop2 μ-loop2) → read (now (c .before .before .before .before .before .before .before .before .before .before .args .bytes)) ≡ Tick (c .before .e .given .0 .0)
-tick-said c = sym (c .before .before .before .before .before .read .ensures) ∙ c .before .e .given .1
-
-tick-timed : (c : tie.After-known-told Inv-loop μ-loop Inv-loop2 μ-loop2) → Timed (view (c .before .before .before .before .before .before .before .before .before .before .args .t1)) (read (now (c .before .before .before .before .before .before .before .before .before .before .args .bytes))) (c .before .e .given .0 .0)
-tick-timed c = tick-is-timed (view (c .before .before .before .before .before .before .before .before .before .before .args .t1)) (read (now (c .before .before .before .before .before .before .before .before .before .before .args .bytes))) _ (tick-said c)
-
-tick-on-time : (c : tie.Else2 Inv-loop μ-loop Inv-loop2 μ-loop2) → verdict (view (c .before .before .before .before .before .before .before .before .before .before .before .before .before .before .before .before .args .t1)) (read (now (c .before .before .before .before .before .before .before .before .before .before .before .before .before .before .before .before .args .bytes))) ≡ behind-time (view (c .before .before .before .before .before .before .before .before .before .before .before .before .before .before .before .before .args .t1)) (read (now (c .before .before .before .before .before .before .before .before .before .before .before .before .before .before .before .before .args .bytes)))
-tick-on-time c = timely (c .before .before .before .before .before .before .before .before .before .before .before .before .before .before .before .before .args .t1) (tick-timed (c .before .before .before .before .before .before)) (c .before .before .before .if1 .left) (c .if2 .left)
-
--- ---- a quote: the same, and the line of its id
-quote-said : (c : tie.After-known-told2 Inv-loop μ-loop Inv-loop2 μ-loop2) → read (now (c .before .before .before .before .before .before .before .before .before .before .args .bytes)) ≡ Quoted (c .before .e2 .given .0 .0)
-quote-said c = sym (c .before .before .before .before .before .read .ensures) ∙ c .before .e2 .given .1
-
-quote-timed : (c : tie.After-known-told2 Inv-loop μ-loop Inv-loop2 μ-loop2) → Timed (view (c .before .before .before .before .before .before .before .before .before .before .args .t1)) (read (now (c .before .before .before .before .before .before .before .before .before .before .args .bytes))) (c .before .e2 .given .0 .0 .time)
-quote-timed c = quote-is-timed (view (c .before .before .before .before .before .before .before .before .before .before .args .t1)) (read (now (c .before .before .before .before .before .before .before .before .before .before .args .bytes))) _ (quote-said c)
-
-quote-on-time : (c : tie.Else4 Inv-loop μ-loop Inv-loop2 μ-loop2) → verdict (view (c .before .before .before .before .before .before .before .before .before .before .before .before .before .before .before .before .before .args .t1)) (read (now (c .before .before .before .before .before .before .before .before .before .before .before .before .before .before .before .before .before .args .bytes))) ≡ behind-time (view (c .before .before .before .before .before .before .before .before .before .before .before .before .before .before .before .before .before .args .t1)) (read (now (c .before .before .before .before .before .before .before .before .before .before .before .before .before .before .before .before .before .args .bytes)))
-quote-on-time c = timely (c .before .before .before .before .before .before .before .before .before .before .before .before .before .before .before .before .before .args .t1) (quote-timed (c .before .before .before .before .before .before .before)) (c .before .before .before .if3 .left) (c .if4 .left)
-
-named : (c : tie.Then6 Inv-loop μ-loop Inv-loop2 μ-loop2) → Named (c .before .before .before .before .before .before .before .before .before .before .before .before .before .e2 .given .0 .0 .id) (view (c .before .before .before .before .before .before .before .before .before .before .before .before .before .before .before .before .before .before .before .before .before .before .args .t1) .lines) (c .before .before .before .before .loop2 .p)
-named c =
-    let v = c .before .before .before .before .before .before .before .before .before .before .before .before .before .before .before .before .before .before .before .before .before .before .pre in
-    walk-met (c .before .before .before .before .before .before .before .before .before .before .before .before .before .before .before .before .before .before .before .before .before .before .args .t1) _ (c .before .before .before .before .loop2 .p) v (c .before .before .before .before .loop2 .inv .1) (omega arith) (c .if6 .taken)
-
-below : (c : tie.Then6 Inv-loop μ-loop Inv-loop2 μ-loop2) → c .before .before .before .before .loop2 .p < c .before .before .before .before .before .before .before .before .before .before .before .before .before .before .before .before .before .before .before .before .before .before .args .t1 .count
-below c = omega (arith, named-below _ _ _ (named c), view-length (c .before .before .before .before .before .before .before .before .before .before .before .before .before .before .before .before .before .before .before .before .before .before .pre))
-
--- ---- the hold that is due next
-next-hold : (c : tie.After-loop Inv-loop μ-loop Inv-loop2 μ-loop2) (t : Seconds) (d : Found) → d ≡ in-time t (c .before .before .before .before .before .before .before .args .t1 .end) (c .before .before .before .before .before .before .before .args .t1 .left) (c .before .loop .best) → next-due t (view (c .before .before .before .before .before .before .before .args .t1)) ≡ d
-next-hold c t d e =
-    let v = c .before .before .before .before .before .before .before .pre in
-    let all : c .before .loop .i ≡ c .before .before .before .before .before .before .before .args .t1 .count = omega arith in
-    searched (c .before .before .before .before .before .before .before .args .t1) t _ _ _ _ (c .before .loop .best) d refl refl refl (omega arith) all (c .before .loop .inv .1) e
-
-read-requires : tie.Need-read-requires Inv-loop μ-loop Inv-loop2 μ-loop2
+read-requires : tie.Need-read-requires Inv-loop μ-loop
 read-requires c κs = search needs
 
-loop-holds : tie.Need-loop-holds Inv-loop μ-loop Inv-loop2 μ-loop2
-loop-holds c = (omega arith, refl)
+loop-holds : tie.Need-loop-holds Inv-loop μ-loop
+loop-holds c = (omega arith, refl, gathered-none _)
 
-mul-l : tie.Need-mul-l Inv-loop μ-loop Inv-loop2 μ-loop2
-mul-l c = let v = c .before .before .before .before .before .before .before .pre in omega arith
+mul-l : tie.Need-mul-l Inv-loop μ-loop
+mul-l c = let v = c .before .before .before .before .before .before .before .pre in omega (arith, v .few)
 
-element-copy-out-l : tie.Need-element-copy-out-l Inv-loop μ-loop Inv-loop2 μ-loop2
-element-copy-out-l c = let v = c .before .before .before .before .before .before .before .pre in omega arith
+element-copy-out-l : tie.Need-element-copy-out-l Inv-loop μ-loop
+element-copy-out-l c = let v = c .before .before .before .before .before .before .before .pre in omega (arith, v .few, v .full)
 
-passed-requires : tie.Need-passed-requires Inv-loop μ-loop Inv-loop2 μ-loop2
+mul-ids : tie.Need-mul-ids Inv-loop μ-loop
+mul-ids c = let v = c .before .before .before .before .before .before .before .before .pre in omega (arith, v .few)
+
+array-write-ids : tie.Need-array-write-ids Inv-loop μ-loop
+array-write-ids c = let v = c .before .before .before .before .before .before .before .before .pre in omega (arith, v .few)
+
+passed-requires : tie.Need-passed-requires Inv-loop μ-loop
 passed-requires c κs = row-passes _ (c .before .before .before .loop .i) (ranged (c .before .before .before .before .before .before .before .before .before .pre)) refl (omega arith)
 
-add-i : tie.Need-add-i Inv-loop μ-loop Inv-loop2 μ-loop2
-add-i c = let v = c .before .before .before .before .before .before .before .before .before .before .pre in omega arith
+add-i : tie.Need-add-i Inv-loop μ-loop
+add-i c = let v = c .before .before .before .before .before .before .before .before .before .before .pre in omega (arith, v .few)
 
-loop-less : tie.Need-loop-less Inv-loop μ-loop Inv-loop2 μ-loop2
+loop-less : tie.Need-loop-less Inv-loop μ-loop
 loop-less c = search needs
 
-loop-again : tie.Need-loop-again Inv-loop μ-loop Inv-loop2 μ-loop2
+loop-again : tie.Need-loop-again Inv-loop μ-loop
 loop-again c =
-    let v = c .before .before .before .before .before .before .before .before .before .before .pre in
-    (omega arith, passed-turn _ (c .before .before .before .before .before .before .before .before .before .before .args .t1 .count) (c .before .before .before .before .before .before .before .before .before .before .args .t1 .lines) (c .before .before .before .before .loop .i) _ _ (omega arith) (omega arith) (c .passed .ensures) (c .before .before .before .before .loop .inv .1))
+    let s = c .before .before .before .before .before .before .before .before .before .before in
+    let at = c .before .before .before .before .loop in (
+      omega arith,
+      passed-turn _ (s .args .t1 .count) (s .args .t1 .lines) (at .i) _ _ (omega arith) (omega (arith, s .pre .few, s .pre .full)) (c .passed .ensures) (at .inv .1),
+      gathered-turn (s .args .t1 .lines) (at .i) (at .ids) (omega (arith, s .pre .few, s .pre .full)) (omega (arith, s .pre .few)) (at .inv .2),
+    )
 
-enum-told : tie.Need-enum-told Inv-loop μ-loop Inv-loop2 μ-loop2
-enum-told c = search needs
+array-share-prefix-ids : tie.Need-array-share-prefix-ids Inv-loop μ-loop
+array-share-prefix-ids c = let v = c .before .before .before .before .before .before .before .pre in omega (arith, v .few, c .before .loop .inv .2 .long)
 
-refused-requires : tie.Need-refused-requires Inv-loop μ-loop Inv-loop2 μ-loop2
+slice-aggregate-screen : tie.Need-slice-aggregate-screen Inv-loop μ-loop
+slice-aggregate-screen c = let v = c .before .before .before .before .before .before .before .before .pre in sym (length-take-le _ (c .before .before .loop .ids) (omega (arith, v .few, c .before .before .loop .inv .2 .long)))
+
+screen-requires : tie.Need-screen-requires Inv-loop μ-loop
+screen-requires c κs = search needs
+
+enum-known-why : tie.Need-enum-known-why Inv-loop μ-loop
+enum-known-why c = search needs
+
+refused-requires : tie.Need-refused-requires Inv-loop μ-loop
 refused-requires c κs = search needs
 
-enum-known-e : tie.Need-enum-known-e Inv-loop μ-loop Inv-loop2 μ-loop2
-enum-known-e c = search needs
+enum-known-v : tie.Need-enum-known-v Inv-loop μ-loop
+enum-known-v c = search needs
 
-refused-requires-2 : tie.Need-refused-requires-2 Inv-loop μ-loop Inv-loop2 μ-loop2
-refused-requires-2 c κs = search needs
-
-returns : tie.Need-returns Inv-loop μ-loop Inv-loop2 μ-loop2
-returns c = c .refused2 .ensures ∙ refused-late (c .before .before .before .before .before .before .before .before .before .before .before .before .before .before .args .t1) (tick-timed (c .before .before .before .before)) (c .before .if1 .taken)
-
-refused-requires-3 : tie.Need-refused-requires-3 Inv-loop μ-loop Inv-loop2 μ-loop2
-refused-requires-3 c κs = search needs
-
-returns-2 : tie.Need-returns-2 Inv-loop μ-loop Inv-loop2 μ-loop2
-returns-2 c = c .refused3 .ensures ∙ refused-early (c .before .before .before .before .before .before .before .before .before .before .before .before .before .before .before .before .before .args .t1) (tick-timed (c .before .before .before .before .before .before .before)) (c .before .before .before .before .if1 .left) (c .before .if2 .taken)
-
-in-time-requires : tie.Need-in-time-requires Inv-loop μ-loop Inv-loop2 μ-loop2
+in-time-requires : tie.Need-in-time-requires Inv-loop μ-loop
 in-time-requires c κs = search needs
 
-enum-told-2 : tie.Need-enum-told-2 Inv-loop μ-loop Inv-loop2 μ-loop2
+enum-told : tie.Need-enum-told Inv-loop μ-loop
+enum-told c = search needs
+
+enum-told-2 : tie.Need-enum-told-2 Inv-loop μ-loop
 enum-told-2 c = search needs
 
-enum-told-3 : tie.Need-enum-told-3 Inv-loop μ-loop Inv-loop2 μ-loop2
+-- ---- what the verdict says
+said : (c : tie.After-screen Inv-loop μ-loop) → Says (view (c .before .before .before .before .before .before .before .before .before .args .t1)) (read (now (c .before .before .before .before .before .before .before .before .before .args .bytes))) (c .screen .result)
+said c =
+    let at = c .before .before .before .loop in
+    let s = c .before .before .before .before .before .before .before .before .before in
+    session-says (s .args .t1) (gathered-all (s .args .t1 .lines) (s .args .t1 .count) (at .i) (at .ids) (omega arith) (at .inv .2)) (c .before .before .before .before .read .ensures) (c .screen .ensures)
+
+takes : (c : tie.After-t Inv-loop μ-loop) → Takes (view (c .before .before .before .before .before .before .before .before .before .before .before .before .before .args .t1)) (read (now (c .before .before .before .before .before .before .before .before .before .before .before .before .before .args .bytes))) (c .before .before .v .given .0 .0)
+takes c = subst (Says (view (c .before .before .before .before .before .before .before .before .before .before .before .before .before .args .t1)) (read (now (c .before .before .before .before .before .before .before .before .before .before .before .before .before .args .bytes)))) (c .before .before .v .given .1) (said (c .before .before .before .before))
+
+-- ---- the hold that is due next
+not-due : (c : tie.After-in-time Inv-loop μ-loop) → next-due (c .before .before .before .v .given .0 .0 .time) (view (c .before .before .before .before .before .before .before .before .before .before .before .before .before .before .args .t1)) ≡ c .in-time .result
+not-due c =
+    let s = c .before .before .before .before .before .before .before .before .before .before .before .before .before .before in
+    let at = c .before .before .before .before .before .before .before .before .loop in
+    searched (s .args .t1) (c .before .before .before .v .given .0 .0 .time) _ _ _ (at .i) (at .best) (c .in-time .result) refl refl refl (omega (arith, s .pre .few, s .pre .full)) (omega arith) (at .inv .1) (c .in-time .ensures)
+
+-- ---- the session served, whether a hold was due or not
+served-so : (c : tie.At-match2-came Inv-loop μ-loop)
+    → _≡_ {A = Served} (record { shifts = c .match2 .shifts; made = c .match2 .made; session = c .match2 .self })
+    (served-as (c .before .before .before .before .before .before .before .before .before .before .before .before .before .before .before .args .t1) (serve (c .before .before .before .before .before .before .before .before .before .before .before .before .before .before .before .args .t1 .left) (c .before .before .before .before .v .given .0 .0 .time) (view (c .before .before .before .before .before .before .before .before .before .before .before .before .before .before .before .args .t1))))
+served-so c = ⊎-elim
+    (λ w. served-path (w .3) (w .4) (w .2) ∙ idle (c .before .before .before .before .before .before .before .before .before .before .before .before .before .before .before .args .t1) (c .before .before .before .before .v .given .0 .0 .time) (c .before .before .before .before .before .before .before .before .before .before .before .before .before .before .before .pre) (serve-stop (c .before .before .before .before .before .before .before .before .before .before .before .before .before .before .before .args .t1 .left) (c .before .before .before .before .v .given .0 .0 .time) (view (c .before .before .before .before .before .before .before .before .before .before .before .before .before .before .before .args .t1)) (not-due (c .before) ∙ w .1 .given .1)))
+    (λ w. served-path (w .6) (w .7) (w .5) ∙ w .2 .ensures) (c .match2 .came)
+
+served-requires : tie.Need-served-requires Inv-loop μ-loop
+served-requires c κs = c .before .before .before .before .before .before .before .before .before .before .before .before .before .before .before .before .pre
+
+enum-told-3 : tie.Need-enum-told-3 Inv-loop μ-loop
 enum-told-3 c = search needs
 
-served-requires : tie.Need-served-requires Inv-loop μ-loop Inv-loop2 μ-loop2
-served-requires c κs = c .before .before .before .before .before .before .before .before .before .before .before .before .before .before .before .before .before .before .before .pre
+enum-known-change : tie.Need-enum-known-change Inv-loop μ-loop
+enum-known-change c = search needs
 
-enum-known-e-2 : tie.Need-enum-known-e-2 Inv-loop μ-loop Inv-loop2 μ-loop2
-enum-known-e-2 c = search needs
+-- ---- the line of a quote
+changes : (c : tie.After-known-told3 Inv-loop μ-loop) → Changes (view (c .before .before .before .before .before .before .before .before .before .before .before .before .before .before .before .before .before .before .args .t1)) (read (now (c .before .before .before .before .before .before .before .before .before .before .before .before .before .before .before .before .before .before .args .bytes))) (Change.Quote (c .before .change .given .0 .0))
+changes c = subst (Changes (view (c .before .before .before .before .before .before .before .before .before .before .before .before .before .before .before .before .before .before .args .t1)) (read (now (c .before .before .before .before .before .before .before .before .before .before .before .before .before .before .before .before .before .before .args .bytes)))) (c .before .change .given .1) (takes (c .before .before .before .before .before) .changes)
 
-refused-requires-4 : tie.Need-refused-requires-4 Inv-loop μ-loop Inv-loop2 μ-loop2
-refused-requires-4 c κs = search needs
+below : (c : tie.After-known-told3 Inv-loop μ-loop) → c .before .change .given .0 .0 .place < 32
+below c =
+    let s = c .before .before .before .before .before .before .before .before .before .before .before .before .before .before .before .before .before .before in
+    let p = c .before .change .given .0 .0 in
+    omega (arith, named-below (p .quote .id) (view (s .args .t1) .lines) (p .place) (changes c .1), view-length (s .pre), s .pre .few)
 
-returns-3 : tie.Need-returns-3 Inv-loop μ-loop Inv-loop2 μ-loop2
-returns-3 c = c .refused4 .ensures ∙ refused-late (c .before .before .before .before .before .before .before .before .before .before .before .before .before .before .before .args .t1) (quote-timed (c .before .before .before .before .before)) (c .before .if3 .taken)
+mul-l-2 : tie.Need-mul-l-2 Inv-loop μ-loop
+mul-l-2 c = omega (arith, below (c .before .before))
 
-refused-requires-5 : tie.Need-refused-requires-5 Inv-loop μ-loop Inv-loop2 μ-loop2
-refused-requires-5 c κs = search needs
+element-copy-out-l-2 : tie.Need-element-copy-out-l-2 Inv-loop μ-loop
+element-copy-out-l-2 c = below (c .before .before)
 
-returns-4 : tie.Need-returns-4 Inv-loop μ-loop Inv-loop2 μ-loop2
-returns-4 c = c .refused5 .ensures ∙ refused-early (c .before .before .before .before .before .before .before .before .before .before .before .before .before .before .before .before .before .before .args .t1) (quote-timed (c .before .before .before .before .before .before .before .before)) (c .before .before .before .before .if3 .left) (c .before .if4 .taken)
+quoted-line-requires : tie.Need-quoted-line-requires Inv-loop μ-loop
+quoted-line-requires c κs =
+    let s = c .before .before .before .before .before .before .before .before .before .before .before .before .before .before .before .before .before .before .before .before .before in
+    let q = c .before .before .before .before .change .given .0 .0 in
+    let o = changes (c .before .before .before) in
+    quote-asks (s .args .t1) (c .before .before .before .before .before .before .before .before .before .before .v .given .0 .0 .time) (q .quote) (q .place) _ (s .pre) (o .1) (quote-in (now (s .args .bytes)) (q .quote) (o .0)) (served-so (c .before .before .before .before .before .before))
 
-loop2-holds : tie.Need-loop2-holds Inv-loop μ-loop Inv-loop2 μ-loop2
-loop2-holds c = (omega arith, unnamed-start _ _)
+mul-m : tie.Need-mul-m Inv-loop μ-loop
+mul-m c = omega (arith, below (c .before .before .before .before))
 
-refused-requires-6 : tie.Need-refused-requires-6 Inv-loop μ-loop Inv-loop2 μ-loop2
-refused-requires-6 c κs = search needs
+element-set-from-m : tie.Need-element-set-from-m Inv-loop μ-loop
+element-set-from-m c = below (c .before .before .before .before)
 
-returns-5 : tie.Need-returns-5 Inv-loop μ-loop Inv-loop2 μ-loop2
-returns-5 c =
-    let v = c .before .before .before .before .before .before .before .before .before .before .before .before .before .before .before .before .before .before .before .before .pre in
-    c .refused6 .ensures
-    ∙ refused-unknown (c .before .before .before .before .before .before .before .before .before .before .before .before .before .before .before .before .before .before .before .before .args .t1) (read (now (c .before .before .before .before .before .before .before .before .before .before .before .before .before .before .before .before .before .before .before .before .args .bytes))) _ (quote-said (c .before .before .before .before .before .before .before .before .before .before)) (quote-on-time (c .before .before .before))
-    (walk-all (c .before .before .before .before .before .before .before .before .before .before .before .before .before .before .before .before .before .before .before .before .args .t1) _ (c .before .before .loop2 .p) v (c .before .before .loop2 .inv .1) (c .before .if5 .taken))
+returns : tie.Need-returns Inv-loop μ-loop
+returns c =
+    let s = c .before .before .before .before .before .before .before .before .before .before .before .before .before in
+    c .refused .ensures ∙ refused-is (s .args .t1) (read (now (s .args .bytes))) _ (subst (Says (view (s .args .t1)) (read (now (s .args .bytes)))) (c .before .before .why .given .1) (said (c .before .before .before .before)))
 
-mul-l-2 : tie.Need-mul-l-2 Inv-loop μ-loop Inv-loop2 μ-loop2
-mul-l-2 c = let v = c .before .before .before .before .before .before .before .before .before .before .before .before .before .before .before .before .before .before .before .pre in omega arith
-
-element-copy-out-l-2 : tie.Need-element-copy-out-l-2 Inv-loop μ-loop Inv-loop2 μ-loop2
-element-copy-out-l-2 c = let v = c .before .before .before .before .before .before .before .before .before .before .before .before .before .before .before .before .before .before .before .pre in omega arith
-
-add-p : tie.Need-add-p Inv-loop μ-loop Inv-loop2 μ-loop2
-add-p c = let v = c .before .before .before .before .before .before .before .before .before .before .before .before .before .before .before .before .before .before .before .before .before .before .pre in omega arith
-
-loop2-less : tie.Need-loop2-less Inv-loop μ-loop Inv-loop2 μ-loop2
-loop2-less c = search needs
-
-loop2-again : tie.Need-loop2-again Inv-loop μ-loop Inv-loop2 μ-loop2
-loop2-again c =
-    let v = c .before .before .before .before .before .before .before .before .before .before .before .before .before .before .before .before .before .before .before .before .before .before .pre in
-    (omega arith, walk-turn (c .before .before .before .before .before .before .before .before .before .before .before .before .before .before .before .before .before .before .before .before .before .before .args .t1) _ (c .before .before .before .before .loop2 .p) v (c .before .before .before .before .loop2 .inv .1) (omega arith) (c .if6 .left))
-
-not-crossed-requires : tie.Need-not-crossed-requires Inv-loop μ-loop Inv-loop2 μ-loop2
-not-crossed-requires c κs = search needs
-
-refused-requires-7 : tie.Need-refused-requires-7 Inv-loop μ-loop Inv-loop2 μ-loop2
-refused-requires-7 c κs = search needs
-
-returns-6 : tie.Need-returns-6 Inv-loop μ-loop Inv-loop2 μ-loop2
-returns-6 c =
-    c .refused7 .ensures
-    ∙ refused-crossed (c .before .before .before .before .before .before .before .before .before .before .before .before .before .before .before .before .before .before .before .before .before .before .before .before .before .args .t1) (read (now (c .before .before .before .before .before .before .before .before .before .before .before .before .before .before .before .before .before .before .before .before .before .before .before .before .before .args .bytes))) _ (quote-said (c .before .before .before .before .before .before .before .before .before .before .before .before .before .before .before)) (quote-on-time (c .before .before .before .before .before .before .before .before)) (named-known _ _ _ (named (c .before .before .before))) (failed (c .before .before .not-crossed .ensures) (c .before .if7 .taken))
-
-in-time-requires-2 : tie.Need-in-time-requires-2 Inv-loop μ-loop Inv-loop2 μ-loop2
-in-time-requires-2 c κs = search needs
-
-enum-told-4 : tie.Need-enum-told-4 Inv-loop μ-loop Inv-loop2 μ-loop2
-enum-told-4 c = search needs
-
-mul-l-3 : tie.Need-mul-l-3 Inv-loop μ-loop Inv-loop2 μ-loop2
-mul-l-3 c = let v = c .before .before .before .before .before .before .before .before .before .before .before .before .before .before .before .before .before .before .before .before .before .before .before .before .before .before .before .before .pre in omega (arith, below (c .before .before .before .before .before .before))
-
-element-copy-out-l-3 : tie.Need-element-copy-out-l-3 Inv-loop μ-loop Inv-loop2 μ-loop2
-element-copy-out-l-3 c = let v = c .before .before .before .before .before .before .before .before .before .before .before .before .before .before .before .before .before .before .before .before .before .before .before .before .before .before .before .before .pre in omega (arith, below (c .before .before .before .before .before .before))
-
-quoted-line-requires : tie.Need-quoted-line-requires Inv-loop μ-loop Inv-loop2 μ-loop2
-quoted-line-requires c κs = quote-asks (c .before .before .before .before .before .before .before .before .before .before .before .before .before .before .before .before .before .before .before .before .before .before .before .before .before .before .before .before .before .args .t1) _ (c .before .before .before .before .before .before .before .before .before .before .before .loop2 .p) (named (c .before .before .before .before .before .before .before)) _ (c .before .before .before .before .before .before .before .before .before .before .before .before .before .before .before .before .before .before .before .before .before .before .before .before .before .before .before .before .before .pre) (quote-in _ _ (quote-said (c .before .before .before .before .before .before .before .before .before .before .before .before .before .before .before .before .before .before .before))) (idle (c .before .before .before .before .before .before .before .before .before .before .before .before .before .before .before .before .before .before .before .before .before .before .before .before .before .before .before .before .before .args .t1) _ (c .before .before .before .before .before .before .before .before .before .before .before .before .before .before .before .before .before .before .before .before .before .before .before .before .before .before .before .before .before .pre) (next-hold (c .before .before .before .before .before .before .before .before .before .before .before .before .before .before .before .before .before .before .before .before .before .before) _ _ (c .before .before .before .before .in-time2 .ensures) ∙ c .before .before .enum-told4 .given .1))
-
-mul-m : tie.Need-mul-m Inv-loop μ-loop Inv-loop2 μ-loop2
-mul-m c = let v = c .before .before .before .before .before .before .before .before .before .before .before .before .before .before .before .before .before .before .before .before .before .before .before .before .before .before .before .before .before .before .pre in omega (arith, below (c .before .before .before .before .before .before .before .before))
-
-element-set-from-m : tie.Need-element-set-from-m Inv-loop μ-loop Inv-loop2 μ-loop2
-element-set-from-m c = let v = c .before .before .before .before .before .before .before .before .before .before .before .before .before .before .before .before .before .before .before .before .before .before .before .before .before .before .before .before .before .before .pre in omega (arith, below (c .before .before .before .before .before .before .before .before))
-
-enum-told-5 : tie.Need-enum-told-5 Inv-loop μ-loop Inv-loop2 μ-loop2
-enum-told-5 c = search needs
-
-served-requires-2 : tie.Need-served-requires-2 Inv-loop μ-loop Inv-loop2 μ-loop2
-served-requires-2 c κs = c .before .before .before .before .before .before .before .before .before .before .before .before .before .before .before .before .before .before .before .before .before .before .before .before .before .before .before .pre
-
-mul-l-4 : tie.Need-mul-l-4 Inv-loop μ-loop Inv-loop2 μ-loop2
-mul-l-4 c = let v = c .before .before .before .before .before .before .before .before .before .before .before .before .before .before .before .before .before .before .before .before .before .before .before .before .before .before .before .before .before .before .before .pre in omega (arith, below (c .before .before .before .before .before .before .before .before .before))
-
-element-copy-out-l-4 : tie.Need-element-copy-out-l-4 Inv-loop μ-loop Inv-loop2 μ-loop2
-element-copy-out-l-4 c = let v = c .before .before .before .before .before .before .before .before .before .before .before .before .before .before .before .before .before .before .before .before .before .before .before .before .before .before .before .before .before .before .before .pre in omega (arith, below (c .before .before .before .before .before .before .before .before .before))
-
-quoted-line-requires-2 : tie.Need-quoted-line-requires-2 Inv-loop μ-loop Inv-loop2 μ-loop2
-quoted-line-requires-2 c κs = quote-asks (c .before .before .before .before .before .before .before .before .before .before .before .before .before .before .before .before .before .before .before .before .before .before .before .before .before .before .before .before .before .before .before .before .args .t1) _ (c .before .before .before .before .before .before .before .before .before .before .before .before .before .before .loop2 .p) (named (c .before .before .before .before .before .before .before .before .before .before)) _ (c .before .before .before .before .before .before .before .before .before .before .before .before .before .before .before .before .before .before .before .before .before .before .before .before .before .before .before .before .before .before .before .before .pre) (quote-in _ _ (quote-said (c .before .before .before .before .before .before .before .before .before .before .before .before .before .before .before .before .before .before .before .before .before .before))) (c .before .before .before .before .served2 .ensures)
-
-mul-m-2 : tie.Need-mul-m-2 Inv-loop μ-loop Inv-loop2 μ-loop2
-mul-m-2 c = let v = c .before .before .before .before .before .before .before .before .before .before .before .before .before .before .before .before .before .before .before .before .before .before .before .before .before .before .before .before .before .before .before .before .before .pre in omega (arith, below (c .before .before .before .before .before .before .before .before .before .before .before))
-
-element-set-from-m-2 : tie.Need-element-set-from-m-2 Inv-loop μ-loop Inv-loop2 μ-loop2
-element-set-from-m-2 c = let v = c .before .before .before .before .before .before .before .before .before .before .before .before .before .before .before .before .before .before .before .before .before .before .before .before .before .before .before .before .before .before .before .before .before .pre in omega (arith, below (c .before .before .before .before .before .before .before .before .before .before .before))
-
-returns-7 : tie.Need-returns-7 Inv-loop μ-loop Inv-loop2 μ-loop2
-returns-7 c = c .refused .ensures ∙ refused-damaged (c .before .before .before .before .before .before .before .before .before .before .args .t1) (read (now (c .before .before .before .before .before .before .before .before .before .before .args .bytes))) (sym (c .before .before .before .before .before .read .ensures) ∙ c .before .enum-told .given .1)
-
-returns-8 : tie.Need-returns-8 Inv-loop μ-loop Inv-loop2 μ-loop2
-returns-8 c = tick-taken (c .before .before .before .before .before .before .before .before .before .before .before .before .before .before .before .before .before .before .before .args .t1) (read (now (c .before .before .before .before .before .before .before .before .before .before .before .before .before .before .before .before .before .before .before .args .bytes))) _ _ (tick-said (c .before .before .before .before .before .before .before .before .before)) (tick-on-time (c .before .before .before)) (idle (c .before .before .before .before .before .before .before .before .before .before .before .before .before .before .before .before .before .before .before .args .t1) _ (c .before .before .before .before .before .before .before .before .before .before .before .before .before .before .before .before .before .before .before .pre) (next-hold (c .before .before .before .before .before .before .before .before .before .before .before .before) _ _ (c .before .before .in-time .ensures) ∙ c .enum-told2 .given .1))
-
-returns-9 : tie.Need-returns-9 Inv-loop μ-loop Inv-loop2 μ-loop2
-returns-9 c = tick-taken (c .before .before .before .before .before .before .before .before .before .before .before .before .before .before .before .before .before .before .before .before .before .before .args .t1) (read (now (c .before .before .before .before .before .before .before .before .before .before .before .before .before .before .before .before .before .before .before .before .before .before .args .bytes))) _ _ (tick-said (c .before .before .before .before .before .before .before .before .before .before .before .before)) (tick-on-time (c .before .before .before .before .before .before)) (c .before .before .served .ensures)
-
-returns-10 : tie.Need-returns-10 Inv-loop μ-loop Inv-loop2 μ-loop2
-returns-10 c =
-    quote-taken (c .before .before .before .before .before .before .before .before .before .before .before .before .before .before .before .before .before .before .before .before .before .before .before .before .before .before .before .before .before .before .args .t1) _ (c .before .before .before .before .before .before .before .before .before .before .before .before .loop2 .p) (named (c .before .before .before .before .before .before .before .before)) (read (now (c .before .before .before .before .before .before .before .before .before .before .before .before .before .before .before .before .before .before .before .before .before .before .before .before .before .before .before .before .before .before .args .bytes))) _ _ (quote-said (c .before .before .before .before .before .before .before .before .before .before .before .before .before .before .before .before .before .before .before .before)) (quote-on-time (c .before .before .before .before .before .before .before .before .before .before .before .before .before)) (held (c .before .before .before .before .before .before .before .not-crossed .ensures) (c .before .before .before .before .before .before .if7 .left))
-    (idle (c .before .before .before .before .before .before .before .before .before .before .before .before .before .before .before .before .before .before .before .before .before .before .before .before .before .before .before .before .before .before .args .t1) _ (c .before .before .before .before .before .before .before .before .before .before .before .before .before .before .before .before .before .before .before .before .before .before .before .before .before .before .before .before .before .before .pre) (next-hold (c .before .before .before .before .before .before .before .before .before .before .before .before .before .before .before .before .before .before .before .before .before .before .before) _ _ (c .before .before .before .before .before .in-time2 .ensures) ∙ c .before .before .before .enum-told4 .given .1)) (c .quoted-line .ensures)
-
-returns-11 : tie.Need-returns-11 Inv-loop μ-loop Inv-loop2 μ-loop2
-returns-11 c =
-    quote-taken (c .before .before .before .before .before .before .before .before .before .before .before .before .before .before .before .before .before .before .before .before .before .before .before .before .before .before .before .before .before .before .before .before .before .args .t1) _ (c .before .before .before .before .before .before .before .before .before .before .before .before .before .before .before .loop2 .p) (named (c .before .before .before .before .before .before .before .before .before .before .before)) (read (now (c .before .before .before .before .before .before .before .before .before .before .before .before .before .before .before .before .before .before .before .before .before .before .before .before .before .before .before .before .before .before .before .before .before .args .bytes))) _ _ (quote-said (c .before .before .before .before .before .before .before .before .before .before .before .before .before .before .before .before .before .before .before .before .before .before .before)) (quote-on-time (c .before .before .before .before .before .before .before .before .before .before .before .before .before .before .before .before)) (held (c .before .before .before .before .before .before .before .before .before .before .not-crossed .ensures) (c .before .before .before .before .before .before .before .before .before .if7 .left))
-    (c .before .before .before .before .before .served2 .ensures) (c .quoted-line2 .ensures)
+returns-2 : tie.Need-returns-2 Inv-loop μ-loop
+returns-2 c =
+    let s = c .before .before .before .before .before .before .before .before .before .before .before .before .before .before .before .before in
+    let r : Served = record { shifts = c .before .match2 .shifts; made = c .before .match2 .made; session = c .before .match2 .self } in
+    let told = event-taken (s .args .t1) (read (now (s .args .bytes))) (c .before .before .before .before .before .v .given .0 .0) r (takes (c .before .before .before)) (served-so (c .before)) in
+    ⊎-elim (λ w. told Change.Nothing (w .1 .given .1) (c .match3 .self) (w .2))
+    (λ w. told (Change.Quote (w .1 .given .0 .0)) (w .1 .given .1) (c .match3 .self) (w .7 ∙ ap (quoted-in (r .session) (w .1 .given .0 .0 .place)) (w .6 .ensures))) (c .match3 .came)
 
 pub event-spec : {M : Type 1} → statement M
 event-spec =
@@ -246,59 +173,32 @@ event-spec =
     (tie.spec
     Inv-loop
     μ-loop
-    Inv-loop2
-    μ-loop2
     read-requires
     loop-holds
     mul-l
     element-copy-out-l
+    mul-ids
+    array-write-ids
     passed-requires
     add-i
     loop-less
     loop-again
-    enum-told
+    array-share-prefix-ids
+    slice-aggregate-screen
+    screen-requires
+    enum-known-why
     refused-requires
-    enum-known-e
-    refused-requires-2
-    returns
-    refused-requires-3
-    returns-2
+    enum-known-v
     in-time-requires
+    enum-told
     enum-told-2
-    enum-told-3
     served-requires
-    enum-known-e-2
-    refused-requires-4
-    returns-3
-    refused-requires-5
-    returns-4
-    loop2-holds
-    refused-requires-6
-    returns-5
+    enum-told-3
+    enum-known-change
     mul-l-2
     element-copy-out-l-2
-    add-p
-    loop2-less
-    loop2-again
-    not-crossed-requires
-    refused-requires-7
-    returns-6
-    in-time-requires-2
-    enum-told-4
-    mul-l-3
-    element-copy-out-l-3
     quoted-line-requires
     mul-m
     element-set-from-m
-    enum-told-5
-    served-requires-2
-    mul-l-4
-    element-copy-out-l-4
-    quoted-line-requires-2
-    mul-m-2
-    element-set-from-m-2
-    returns-7
-    returns-8
-    returns-9
-    returns-10
-    returns-11)
+    returns
+    returns-2)

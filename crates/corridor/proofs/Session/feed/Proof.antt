@@ -1,83 +1,235 @@
 -- `corridor::Session::feed` meets its contract. Assumes nothing.
-use mathlib.Core.Path.{_≡_, refl}
-use Prim.Native.Nat.{_-_}
-use native.Mathlib.Omega.{arith}
-use lib.ListN.{length}
+use borrow.Author.Needs.{needs}
 use denote.Ref.{now}
-use Rattle.corridor.proofs.Feeding.{Ahead, ahead-start, ahead-turn, ahead-fits, ahead-long, all-fed, all-into, nothing-fed, nothing-into}
+use mathlib.Core.Path.{_≡_, sym, ap, subst, _∙_}
+use mathlib.Core.Logic.{⊎-elim}
+use Prim.Native.Nat.{_≤_, _<_, _-_}
+use native.Mathlib.Omega.{arith}
+use lib.ListN.{length, take, drop}
+use lib.Seq.{length-take-le}
+use Rattle.method.specs.Event.{read}
+use Rattle.verdict.specs.declared.Change.{Change}
+use Rattle.corridor.specs.View.{view}
+use Rattle.corridor.specs.Feeding.{room}
+use Rattle.corridor.proofs.Views.{view-length}
+use Rattle.corridor.proofs.Named.{named-below}
+use Rattle.corridor.proofs.Gathered.{Gathered, gathered-none, gathered-turn, gathered-all}
+use Rattle.corridor.proofs.Saying.{Changes, Says, Takes, session-says}
+use Rattle.corridor.proofs.Events.{quote-asks, quoted-in, quote-in}
+use Rattle.corridor.proofs.Cutting.{Cut, cut-is}
+use Rattle.corridor.proofs.Feeding.{ahead-long, all-fed, all-into, nothing-fed, nothing-into}
+use Rattle.corridor.proofs.Turns.{Caught, caught-none, caught-served, served-few, served-ranged, Turn, turn-start, row-fits, shifts-fit, turn-refused, turn-waits, turn-taken}
 use Rattle.corridor.proofs.Session.feed.Statement.{statement}
 use Rattle.corridor.proofs.Session.feed.Tie as tie
 
 abbrev Inv-loop : tie.InvT-loop
-Inv-loop events out₀ size needed session₀ at₀ from₀ out session at from = Ahead session₀ events out₀ session at from out
+Inv-loop events out self size needed n ids₀ i₀ ids i = (i ≤ n) × Gathered (self .lines) i ids
 
 abbrev μ-loop : tie.MeasureT-loop
-μ-loop events out₀ size needed session₀ at₀ from₀ out session at from = size - from
+μ-loop events out self size needed n ids₀ i₀ ids i = n - i
 
-room-requires : tie.Need-room-requires Inv-loop μ-loop
+abbrev Inv-loop2 : tie.InvT-loop2
+Inv-loop2 events out₀ self₀ size needed n ids quiet₀ at₀ from₀ out self quiet at from = Turn self₀ events out₀ n ids self quiet at from out
+
+abbrev μ-loop2 : tie.MeasureT-loop2
+μ-loop2 events out₀ self₀ size needed n ids quiet₀ at₀ from₀ out self quiet at from = size - from
+
+room-requires : tie.Need-room-requires Inv-loop μ-loop Inv-loop2 μ-loop2
 room-requires c κs = tt
 
-returns : tie.Need-returns Inv-loop μ-loop
+returns : tie.Need-returns Inv-loop μ-loop Inv-loop2 μ-loop2
 returns c =
     let s = c .before .before .before in
     let e = c .before .room .ensures in (
-      nothing-fed (s .args .self) (now (s .args .out)) (now (s .args .events)) e (c .if1 .taken),
-      nothing-into (s .args .self) (now (s .args .out)) (now (s .args .events)) e (c .if1 .taken),
+      nothing-fed (s .args .t1) (now (s .args .out)) (now (s .args .events)) e (c .if1 .taken),
+      nothing-into (s .args .t1) (now (s .args .out)) (now (s .args .events)) e (c .if1 .taken),
     )
 
-loop-holds : tie.Need-loop-holds Inv-loop μ-loop
-loop-holds c =
-    let s = c .before .before .before in
-    ahead-start (s .args .self) (now (s .args .events)) (now (s .args .out)) (s .pre) (omega (arith, c .before .room .ensures, c .if1 .left))
+loop-holds : tie.Need-loop-holds Inv-loop μ-loop Inv-loop2 μ-loop2
+loop-holds c = (omega arith, gathered-none _)
 
-cut-requires : tie.Need-cut-requires Inv-loop μ-loop
-cut-requires c κs = c .loop-test .taken
+mul-l : tie.Need-mul-l Inv-loop μ-loop Inv-loop2 μ-loop2
+mul-l c = let v = c .before .before .before .before .before .pre in omega (arith, v .few)
 
-sub-event : tie.Need-sub-event Inv-loop μ-loop
-sub-event c = let k = c .cut .ensures in omega (arith, k .on)
+element-copy-out-l : tie.Need-element-copy-out-l Inv-loop μ-loop Inv-loop2 μ-loop2
+element-copy-out-l c = let v = c .before .before .before .before .before .pre in omega (arith, v .few, v .full)
 
-part-event-start : tie.Need-part-event-start Inv-loop μ-loop
-part-event-start c = let k = c .cut .ensures in omega (arith, k .on)
+mul-ids : tie.Need-mul-ids Inv-loop μ-loop Inv-loop2 μ-loop2
+mul-ids c = let v = c .before .before .before .before .before .before .pre in omega (arith, v .few)
 
-part-event-end : tie.Need-part-event-end Inv-loop μ-loop
-part-event-end c = c .cut .ensures .inside
+array-write-ids : tie.Need-array-write-ids Inv-loop μ-loop Inv-loop2 μ-loop2
+array-write-ids c = let v = c .before .before .before .before .before .before .pre in omega (arith, v .few)
 
-event-requires : tie.Need-event-requires Inv-loop μ-loop
-event-requires c κs = c .before .before .before .loop .inv .valid
+add-i : tie.Need-add-i Inv-loop μ-loop Inv-loop2 μ-loop2
+add-i c = let v = c .before .before .before .before .before .before .pre in omega (arith, v .few)
 
-told-requires : tie.Need-told-requires Inv-loop μ-loop
-told-requires c κs =
-    let s = c .before .before .before .before .before .before .before .before .before .before in
-    let at = c .before .before .before .before .before .before .loop in
-    let k = c .before .before .before .before .cut .ensures in
-    ahead-fits (s .args .self) (now (s .args .events)) (now (s .args .out)) (at .inv) (c .before .before .before .before .before .loop-test .taken) k
-    (c .before .before .event .result) (c .before .before .event .ensures)
+loop-less : tie.Need-loop-less Inv-loop μ-loop Inv-loop2 μ-loop2
+loop-less c = search needs
 
-loop-less : tie.Need-loop-less Inv-loop μ-loop
-loop-less c = let k = c .before .before .before .before .before .before .before .cut .ensures in omega (arith, k .on, k .inside)
-
-loop-again : tie.Need-loop-again Inv-loop μ-loop
+loop-again : tie.Need-loop-again Inv-loop μ-loop Inv-loop2 μ-loop2
 loop-again c =
-    let s = c .before .before .before .before .before .before .before .before .before .before .before .before .before in
-    let at = c .before .before .before .before .before .before .before .before .before .loop in
-    let k = c .before .before .before .before .before .before .before .cut .ensures in
-    let e = c .before .before .before .before .before .event in
-    let t = c .before .before .told in
-    ahead-turn (s .args .self) (now (s .args .events)) (now (s .args .out)) (at .inv) (c .before .before .before .before .before .before .before .before .loop-test .taken) k
-    (e .result) (e .ensures) (t .result) (t .ensures .0) _ (t .ensures .1)
+    let s = c .before .before .before .before .before .before in
+    let at = c .before .before .loop in
+    (omega arith, gathered-turn (s .args .t1 .lines) (at .i) (at .ids) (omega (arith, s .pre .few, s .pre .full)) (omega (arith, s .pre .few)) (at .inv .1))
 
-same-length : tie.Need-same-length Inv-loop μ-loop
-same-length c =
-    let s = c .before .before .before .before .before in
-    ahead-long (s .args .self) (now (s .args .events)) (now (s .args .out)) (c .before .loop .inv)
-
-returns-2 : tie.Need-returns-2 Inv-loop μ-loop
-returns-2 c =
+loop2-holds : tie.Need-loop2-holds Inv-loop μ-loop Inv-loop2 μ-loop2
+loop2-holds c =
     let s = c .before .before .before .before .before in
     let at = c .before .loop in
-    let last : at .from ≡ length (now (s .args .events)) = omega (arith, at .inv .inside) in (
-      all-fed (s .args .self) (now (s .args .events)) (now (s .args .out)) (at .inv) last (omega (arith, c .before .before .before .room .ensures, c .before .before .if1 .left)),
-      all-into (s .args .self) (now (s .args .events)) (now (s .args .out)) (at .inv) last (omega (arith, c .before .before .before .room .ensures, c .before .before .if1 .left)),
+    turn-start (s .args .t1) (now (s .args .events)) (now (s .args .out)) (s .args .t1 .count) (at .ids) (s .pre)
+    (omega (arith, c .before .before .before .room .ensures, c .before .before .if1 .left)) (gathered-all (s .args .t1 .lines) (s .args .t1 .count) (at .i) (at .ids) (omega arith) (at .inv .1))
+
+cut-requires : tie.Need-cut-requires Inv-loop μ-loop Inv-loop2 μ-loop2
+cut-requires c κs = c .loop2-test .taken
+
+-- ---- the event at hand
+cut : (c : tie.After-cut Inv-loop μ-loop Inv-loop2 μ-loop2) → Cut (c .before .before .loop2 .from) (length (now (c .before .before .before .before .before .before .before .before .args .events))) (c .cut .result)
+cut c = cut-is _ _ _ (c .before .loop2-test .taken) (c .cut .ensures)
+
+sub-read : tie.Need-sub-read Inv-loop μ-loop Inv-loop2 μ-loop2
+sub-read c = omega (arith, cut c .on)
+
+part-read-start : tie.Need-part-read-start Inv-loop μ-loop Inv-loop2 μ-loop2
+part-read-start c = omega (arith, cut c .on)
+
+part-read-end : tie.Need-part-read-end Inv-loop μ-loop Inv-loop2 μ-loop2
+part-read-end c = cut c .inside
+
+read-requires : tie.Need-read-requires Inv-loop μ-loop Inv-loop2 μ-loop2
+read-requires c κs = search needs
+
+array-share-prefix-ids : tie.Need-array-share-prefix-ids Inv-loop μ-loop Inv-loop2 μ-loop2
+array-share-prefix-ids c = omega (arith, c .before .before .before .before .before .before .before .before .before .before .before .before .pre .few, c .before .before .before .before .before .before .before .before .loop .inv .1 .long)
+
+slice-aggregate-screen : tie.Need-slice-aggregate-screen Inv-loop μ-loop Inv-loop2 μ-loop2
+slice-aggregate-screen c = sym (length-take-le _ (c .before .before .before .before .before .before .before .before .before .loop .ids) (omega (arith, c .before .before .before .before .before .before .before .before .before .before .before .before .before .pre .few, c .before .before .before .before .before .before .before .before .before .loop .inv .1 .long)))
+
+screen-requires : tie.Need-screen-requires Inv-loop μ-loop Inv-loop2 μ-loop2
+screen-requires c κs = search needs
+
+enum-known-why : tie.Need-enum-known-why Inv-loop μ-loop Inv-loop2 μ-loop2
+enum-known-why c = search needs
+
+write-requires : tie.Need-write-requires Inv-loop μ-loop Inv-loop2 μ-loop2
+write-requires c κs = row-fits (c .before .before .before .before .before .before .before .before .before .before .before .before .before .before .before .before .before .before .args .t1) (now (c .before .before .before .before .before .before .before .before .before .before .before .before .before .before .before .before .before .before .args .events)) (now (c .before .before .before .before .before .before .before .before .before .before .before .before .before .before .before .before .before .before .args .out)) _ _ (c .before .before .before .before .before .before .before .before .before .before .before .before .loop2 .inv) (c .before .before .before .before .before .before .before .before .before .before .before .loop2-test .taken) (cut (c .before .before .before .before .before .before .before .before .before .before))
+
+add-at : tie.Need-add-at Inv-loop μ-loop Inv-loop2 μ-loop2
+add-at c =
+    let s = c .before .before .before .before .before .before .before .before .before .before .before .before .before .before .before .before .before .before .before .before in
+    let at = c .before .before .before .before .before .before .before .before .before .before .before .before .before .before .loop2 in
+    omega (arith, row-fits (s .args .t1) (now (s .args .events)) (now (s .args .out)) _ _ (at .inv) (c .before .before .before .before .before .before .before .before .before .before .before .before .before .loop2-test .taken) (cut (c .before .before .before .before .before .before .before .before .before .before .before .before)), ahead-long (s .args .t1) (now (s .args .events)) (now (s .args .out)) (at .inv .ahead), s .good)
+
+loop2-less : tie.Need-loop2-less Inv-loop μ-loop Inv-loop2 μ-loop2
+loop2-less c = let k = cut (c .before .before .before .before .before .before .before .before .before .before .before .before) in omega (arith, k .on, k .inside)
+
+-- ---- what the verdict says
+said : (c : tie.After-screen Inv-loop μ-loop Inv-loop2 μ-loop2)
+    → Says (view (c .before .before .before .before .before .before .before .before .loop2 .self)) (read (take (c .before .before .before .before .before .before .cut .result - c .before .before .before .before .before .before .before .before .loop2 .from) (drop (c .before .before .before .before .before .before .before .before .loop2 .from) (now (c .before .before .before .before .before .before .before .before .before .before .before .before .before .before .args .events))))) (c .screen .result)
+said c = session-says (c .before .before .before .before .before .before .before .before .loop2 .self) (c .before .before .before .before .before .before .before .before .loop2 .inv .named) (c .before .before .before .before .read .ensures) (c .screen .ensures)
+
+takes : (c : tie.After-t Inv-loop μ-loop Inv-loop2 μ-loop2)
+    → Takes (view (c .before .before .before .before .before .before .before .before .before .before .before .before .loop2 .self)) (read (take (c .before .before .before .before .before .before .before .before .before .before .cut .result - c .before .before .before .before .before .before .before .before .before .before .before .before .loop2 .from) (drop (c .before .before .before .before .before .before .before .before .before .before .before .before .loop2 .from) (now (c .before .before .before .before .before .before .before .before .before .before .before .before .before .before .before .before .before .before .args .events))))) (c .before .before .v .given .0 .0)
+takes c = subst (Says (view (c .before .before .before .before .before .before .before .before .before .before .before .before .loop2 .self)) (read (take (c .before .before .before .before .before .before .before .before .before .before .cut .result - c .before .before .before .before .before .before .before .before .before .before .before .before .loop2 .from) (drop (c .before .before .before .before .before .before .before .before .before .before .before .before .loop2 .from) (now (c .before .before .before .before .before .before .before .before .before .before .before .before .before .before .before .before .before .before .args .events)))))) (c .before .before .v .given .1) (said (c .before .before .before .before))
+
+loop2-again : tie.Need-loop2-again Inv-loop μ-loop Inv-loop2 μ-loop2
+loop2-again c =
+    let s = c .before .before .before .before .before .before .before .before .before .before .before .before .before .before .before .before .before .before .before .before in
+    turn-refused (s .args .t1) (now (s .args .events)) (now (s .args .out)) _ _ (c .before .before .before .before .before .before .before .before .before .before .before .before .before .before .loop2 .inv) (c .before .before .before .before .before .before .before .before .before .before .before .before .before .loop2-test .taken) (cut (c .before .before .before .before .before .before .before .before .before .before .before .before)) _
+    (subst (Says (view (c .before .before .before .before .before .before .before .before .before .before .before .before .before .before .loop2 .self)) (read (take (c .before .before .before .before .before .before .before .before .before .before .before .before .cut .result - c .before .before .before .before .before .before .before .before .before .before .before .before .before .before .loop2 .from) (drop (c .before .before .before .before .before .before .before .before .before .before .before .before .before .before .loop2 .from) (now (s .args .events)))))) (c .before .before .before .before .why .given .1) (said (c .before .before .before .before .before .before)))
+    (c .before .write .ensures)
+
+enum-known-v : tie.Need-enum-known-v Inv-loop μ-loop Inv-loop2 μ-loop2
+enum-known-v c = search needs
+
+served-requires : tie.Need-served-requires Inv-loop μ-loop Inv-loop2 μ-loop2
+served-requires c κs = c .before .before .before .before .before .before .before .before .before .before .before .before .before .before .before .loop2 .inv .ahead .valid
+
+write-shifts-requires : tie.Need-write-shifts-requires Inv-loop μ-loop Inv-loop2 μ-loop2
+write-shifts-requires c κs =
+    let s = c .before .before .before .before .before .before .before .before .before .before .before .before .before .before .before .before .before .before .before .before .before .before .before .before in
+    let at = c .before .before .before .before .before .before .before .before .before .before .before .before .before .before .before .before .before .before .loop2 in
+    let few = served-few (at .self) _ (at .inv .ahead .valid) (c .before .before .served .result) (c .before .before .served .ensures) in
+    (few .0, shifts-fit (s .args .t1) (now (s .args .events)) (now (s .args .out)) _ _ (at .inv) (c .before .before .before .before .before .before .before .before .before .before .before .before .before .before .before .before .before .loop2-test .taken) (cut (c .before .before .before .before .before .before .before .before .before .before .before .before .before .before .before .before)) _ (few .1))
+
+quiet-requires : tie.Need-quiet-requires Inv-loop μ-loop Inv-loop2 μ-loop2
+quiet-requires c κs = let at = c .before .before .before .before .before .before .before .before .before .before .before .before .before .before .before .before .before .before .before .before .before .loop2 in served-ranged (at .self) _ (at .inv .ahead .valid) (c .before .before .before .before .before .served .result) (c .before .before .before .before .before .served .ensures)
+
+-- ---- the holds that are due are served, or none is
+caught : (c : tie.Joined2 Inv-loop μ-loop Inv-loop2 μ-loop2) → Caught (c .before .before .before .before .before .before .before .before .before .before .before .before .before .before .before .loop2 .self) (c .before .before .before .before .before .v .given .0 .0 .time) (c .before .before .before .before .before .before .before .before .before .before .before .before .before .before .before .loop2 .at) (c .before .before .before .before .before .before .before .before .before .before .before .before .before .before .before .loop2 .out) (c .if2 .self) (c .if2 .quiet) (c .if2 .at) (c .if2 .out)
+caught c =
+    let at = c .before .before .before .before .before .before .before .before .before .before .before .before .before .before .before .loop2 in
+    ⊎-elim
+    (λ w. caught-served (at .self) _ (at .at) (at .out) (w .1 .result) (w .1 .ensures) (w .8 ∙ w .4 .ensures .1) (w .9) (w .10 ∙ w .7 .ensures) (w .11 ∙ w .4 .ensures .0))
+    (λ w. caught-none (at .self) _ (at .at) (at .out) (at .quiet) (at .inv .ahead .valid) (at .inv .none-due) (w .0 .left) (w .1) (w .2) (w .3) (w .4)) (c .if2 .came)
+
+until-requires : tie.Need-until-requires Inv-loop μ-loop Inv-loop2 μ-loop2
+until-requires c κs =
+    let s = c .before .before .before .before .before .before .before .before .before .before .before .before .before .before .before .before .before .before .before .before .before .before in
+    turn-waits (s .args .t1) (now (s .args .events)) (now (s .args .out)) _ _ (c .before .before .before .before .before .before .before .before .before .before .before .before .before .before .before .before .loop2 .inv) (c .before .before .before .before .before .before .before .before .before .before .before .before .before .before .before .loop2-test .taken) (cut (c .before .before .before .before .before .before .before .before .before .before .before .before .before .before)) _ (takes (c .before .before .before .before)) (caught (c .before))
+
+enum-told : tie.Need-enum-told Inv-loop μ-loop Inv-loop2 μ-loop2
+enum-told c = search needs
+
+enum-known-change : tie.Need-enum-known-change Inv-loop μ-loop Inv-loop2 μ-loop2
+enum-known-change c = search needs
+
+-- ---- the line of a quote
+changes : (c : tie.After-known-told3 Inv-loop μ-loop Inv-loop2 μ-loop2)
+    → Changes (view (c .before .before .before .before .before .before .before .before .before .before .before .before .before .before .before .before .before .before .before .before .loop2 .self)) (read (take (c .before .before .before .before .before .before .before .before .before .before .before .before .before .before .before .before .before .before .cut .result - c .before .before .before .before .before .before .before .before .before .before .before .before .before .before .before .before .before .before .before .before .loop2 .from) (drop (c .before .before .before .before .before .before .before .before .before .before .before .before .before .before .before .before .before .before .before .before .loop2 .from) (now (c .before .before .before .before .before .before .before .before .before .before .before .before .before .before .before .before .before .before .before .before .before .before .before .before .before .before .args .events))))) (Change.Quote (c .before .change .given .0 .0))
+changes c = subst (Changes (view (c .before .before .before .before .before .before .before .before .before .before .before .before .before .before .before .before .before .before .before .before .loop2 .self)) (read (take (c .before .before .before .before .before .before .before .before .before .before .before .before .before .before .before .before .before .before .cut .result - c .before .before .before .before .before .before .before .before .before .before .before .before .before .before .before .before .before .before .before .before .loop2 .from) (drop (c .before .before .before .before .before .before .before .before .before .before .before .before .before .before .before .before .before .before .before .before .loop2 .from) (now (c .before .before .before .before .before .before .before .before .before .before .before .before .before .before .before .before .before .before .before .before .before .before .before .before .before .before .args .events)))))) (c .before .change .given .1) (takes (c .before .before .before .before .before .before .before .before) .changes)
+
+below : (c : tie.After-known-told3 Inv-loop μ-loop Inv-loop2 μ-loop2) → c .before .change .given .0 .0 .place < 32
+below c =
+    let s = c .before .before .before .before .before .before .before .before .before .before .before .before .before .before .before .before .before .before .before .before .loop2 in
+    let p = c .before .change .given .0 .0 in
+    omega (arith, named-below (p .quote .id) (view (s .self) .lines) (p .place) (changes c .1), view-length (s .inv .ahead .valid), s .inv .ahead .valid .few)
+
+mul-l-2 : tie.Need-mul-l-2 Inv-loop μ-loop Inv-loop2 μ-loop2
+mul-l-2 c = omega (arith, below (c .before .before))
+
+element-copy-out-l-2 : tie.Need-element-copy-out-l-2 Inv-loop μ-loop Inv-loop2 μ-loop2
+element-copy-out-l-2 c = below (c .before .before)
+
+quoted-line-requires : tie.Need-quoted-line-requires Inv-loop μ-loop Inv-loop2 μ-loop2
+quoted-line-requires c κs =
+    let s = c .before .before .before .before .before .before .before .before .before .before .before .before .before .before .before .before .before .before .before .before .before .before .before .loop2 in
+    let q = c .before .before .before .before .change .given .0 .0 in
+    let o = changes (c .before .before .before) in
+    quote-asks (s .self) (c .before .before .before .before .before .before .before .before .before .before .before .before .before .v .given .0 .0 .time) (q .quote) (q .place) _ (s .inv .ahead .valid) (o .1) (quote-in _ (q .quote) (o .0)) (caught (c .before .before .before .before .before .before .before .before) .served)
+
+mul-m : tie.Need-mul-m Inv-loop μ-loop Inv-loop2 μ-loop2
+mul-m c = omega (arith, below (c .before .before .before .before))
+
+element-set-from-m : tie.Need-element-set-from-m Inv-loop μ-loop Inv-loop2 μ-loop2
+element-set-from-m c = below (c .before .before .before .before)
+
+loop2-less-2 : tie.Need-loop2-less-2 Inv-loop μ-loop Inv-loop2 μ-loop2
+loop2-less-2 c = let k = cut (c .before .before .before .before .before .before .before .before .before .before .before .before .before .before .before .before) in omega (arith, k .on, k .inside)
+
+loop2-again-2 : tie.Need-loop2-again-2 Inv-loop μ-loop Inv-loop2 μ-loop2
+loop2-again-2 c =
+    let s = c .before .before .before .before .before .before .before .before .before .before .before .before .before .before .before .before .before .before .before .before .before .before .before .before in
+    let k = caught (c .before .before .before) in
+    let then = turn-taken (s .args .t1) (now (s .args .events)) (now (s .args .out)) _ _ (c .before .before .before .before .before .before .before .before .before .before .before .before .before .before .before .before .before .before .loop2 .inv) (c .before .before .before .before .before .before .before .before .before .before .before .before .before .before .before .before .before .loop2-test .taken) (cut (c .before .before .before .before .before .before .before .before .before .before .before .before .before .before .before .before)) _ (takes (c .before .before .before .before .before .before)) k in
+    let later = c .before .until .ensures in
+    ⊎-elim (λ w. then Change.Nothing (w .1 .given .1) (c .match2 .self) (w .2) _ later)
+    (λ w. then (Change.Quote (w .1 .given .0 .0)) (w .1 .given .1) (c .match2 .self) (w .7 ∙ ap (quoted-in (c .before .before .before .if2 .self) (w .1 .given .0 .0 .place)) (w .6 .ensures)) _ later)
+    (c .match2 .came)
+
+same-length : tie.Need-same-length Inv-loop μ-loop Inv-loop2 μ-loop2
+same-length c =
+    let s = c .before .before .before .before .before .before .before in
+    ahead-long (s .args .t1) (now (s .args .events)) (now (s .args .out)) (c .before .loop2 .inv .ahead)
+
+returns-2 : tie.Need-returns-2 Inv-loop μ-loop Inv-loop2 μ-loop2
+returns-2 c =
+    let s = c .before .before .before .before .before .before .before in
+    let at = c .before .loop2 in
+    let h = at .inv .ahead in
+    let last : at .from ≡ length (now (s .args .events)) = omega (arith, h .inside) in
+    let enough : room (length (now (s .args .events))) ≤ length (now (s .args .out)) = omega (arith, c .before .before .before .before .before .room .ensures, c .before .before .before .before .if1 .left) in (
+      all-fed (s .args .t1) (now (s .args .events)) (now (s .args .out)) h last enough,
+      all-into (s .args .t1) (now (s .args .events)) (now (s .args .out)) h last enough,
     )
 
 pub feed-spec : {M : Type 1} → statement M
@@ -86,16 +238,45 @@ feed-spec =
     (tie.spec
     Inv-loop
     μ-loop
+    Inv-loop2
+    μ-loop2
     room-requires
     returns
     loop-holds
-    cut-requires
-    sub-event
-    part-event-start
-    part-event-end
-    event-requires
-    told-requires
+    mul-l
+    element-copy-out-l
+    mul-ids
+    array-write-ids
+    add-i
     loop-less
     loop-again
+    loop2-holds
+    cut-requires
+    sub-read
+    part-read-start
+    part-read-end
+    read-requires
+    array-share-prefix-ids
+    slice-aggregate-screen
+    screen-requires
+    enum-known-why
+    write-requires
+    add-at
+    loop2-less
+    loop2-again
+    enum-known-v
+    served-requires
+    write-shifts-requires
+    quiet-requires
+    until-requires
+    enum-told
+    enum-known-change
+    mul-l-2
+    element-copy-out-l-2
+    quoted-line-requires
+    mul-m
+    element-set-from-m
+    loop2-less-2
+    loop2-again-2
     same-length
     returns-2)

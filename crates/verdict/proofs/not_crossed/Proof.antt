@@ -1,8 +1,8 @@
--- `corridor::event::not_crossed` meets its contract. Assumes nothing.
+-- `verdict::not_crossed` meets its contract. Assumes nothing.
 use borrow.Author.Needs.{needs}
 use Rattle.method.specs.Event.{not-crossed}
-use Rattle.corridor.proofs.event.not_crossed.Statement.{statement}
-use Rattle.corridor.proofs.event.not_crossed.Tie as tie
+use Rattle.verdict.proofs.not_crossed.Statement.{statement}
+use Rattle.verdict.proofs.not_crossed.Tie as tie
 
 enum-told : tie.Need-enum-told
 enum-told c = search needs

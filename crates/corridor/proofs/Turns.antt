@@ -1,0 +1,156 @@
+-- A turn of feed's loop: an event refused, or taken after the holds that were due. Assumes nothing.
+use mathlib.Core.Path.{_≡_, refl, sym, ap, subst, _∙_}
+use mathlib.Core.List.{List, map}
+use Prim.Native.Nat.{ℕ, _+_, _-_, _*_, _≤_, _<_}
+use native.Mathlib.Omega.{arith}
+use lib.IntN.{ℤ}
+use lib.ListN.{length, take, drop, replicate}
+use Rattle.method.specs.Types.{State, seconds}
+use Rattle.method.specs.Opening.{ids}
+use Rattle.method.specs.Shift.{after}
+use Rattle.method.specs.Event.{read, verdict, applied}
+use Rattle.method.specs.CalledFor.{time}
+use Rattle.method.specs.Search.{serve}
+use Rattle.method.specs.Program.{row-numbers, numbers-of}
+use Rattle.method.specs.declared.Row.the-variants as Row
+use Rattle.method.proofs.Serving.{serve-calls, calls-left, after-judged, after-kept}
+use Rattle.rows.specs.Buffer.{written}
+use Rattle.rows.proofs.Buffer.{nothing-written, numbers-one}
+use Rattle.verdict.specs.declared.Change.{Change}
+use Rattle.verdict.specs.declared.Taken.{Taken}
+use Rattle.corridor.specs.Names.{Seconds, ShiftLine, Event, EventAnswer, EventReason}
+use Rattle.corridor.specs.declared.Session.{Session}
+use Rattle.corridor.specs.declared.Served.{Served}
+use Rattle.corridor.specs.declared.Reply.{Reply}
+use Rattle.corridor.specs.View.{view, Ranged, Valid}
+use Rattle.corridor.specs.Quiet.{quiet-until, until}
+use Rattle.corridor.specs.Reply.{no-shift, served-as, refused-with}
+use Rattle.corridor.specs.Feeding.{room}
+use Rattle.corridor.proofs.Views.{view-put}
+use Rattle.corridor.proofs.DueServed.{served-path, idle, ranged-served}
+use Rattle.corridor.proofs.Gathered.{ids-after, ids-applied}
+use Rattle.corridor.proofs.Saying.{Takes}
+use Rattle.corridor.proofs.Quiet.{Quiet, quiet-start, quiet-serves, quiet-first, quiet-applied}
+use Rattle.corridor.proofs.Events.{reply, refused-is, accepted, moved-on, handed, lines-after, event-taken}
+use Rattle.corridor.proofs.Cutting.{Cut, fewer}
+use Rattle.corridor.proofs.Feeding.{Ahead, ahead-start, ahead-turn, ahead-long}
+
+-- ---- the holds that are due by t are served: s′ is the session then, and their rows stand in now′ up to at′
+pub record Caught (s : Session) (t : Seconds) (at : ℕ) (now : List ℤ) (s′ : Session) (quiet : Seconds) (at′ : ℕ) (now′ : List ℤ) : Type 0 where
+  pub shifts : List ShiftLine
+  pub made : ℕ
+  pub served : _≡_ {A = Served} (record { shifts = shifts; made = made; session = s′ }) (served-as s (serve (s .left) t (view s)))
+  pub on : at′ ≡ at + 6 * made
+  pub told : now′ ≡ written now at (numbers-of (map Row.Shift (take made shifts)))
+  pub none-due : Quiet quiet (view s′)
+
+module _ (s : Session) (t : Seconds) (at : ℕ) (now : List ℤ) {s′ : Session} {quiet : Seconds} {at′ : ℕ} {now′ : List ℤ} where
+  -- before the quiet second nothing is due
+  pub caught-none : (q : Seconds) → Valid s → Quiet q (view s) → t .0 < q .0 → now′ ≡ now → s′ ≡ s → quiet ≡ q → at′ ≡ at → Caught s t at now s′ quiet at′ now′
+  caught-none q v h g en es eq ea =
+      record {
+        shifts = replicate 16 no-shift;
+        made = 0;
+        served = served-path refl refl es ∙ idle s t v (quiet-serves q t (view s) (v .sound .exact) h g);
+        on = omega (arith, ea);
+        told = en ∙ nothing-written now at;
+        none-due = rw (eq, es) h;
+      }
+
+  -- from that second on what is due is served, and the quiet second is found anew
+  pub caught-served : (r : Served) → r ≡ served-as s (serve (s .left) t (view s)) → now′ ≡ written now at (numbers-of (map Row.Shift (take (r .made) (r .shifts))))
+      → s′ ≡ r .session → quiet ≡ quiet-until (view (r .session)) → at′ ≡ at + 6 * r .made → Caught s t at now s′ quiet at′ now′
+  caught-served r er en es eq ea =
+      record {
+        shifts = r .shifts;
+        made = r .made;
+        served = served-path refl refl es ∙ er;
+        on = ea;
+        told = en;
+        none-due = rw (eq, es) (quiet-first (view (r .session)));
+      }
+
+-- what is served fits into the room, and is a session in its ranges
+module _ (s : Session) (t : Seconds) (v : Valid s) (r : Served) (e : r ≡ served-as s (serve (s .left) t (view s))) where
+  pub served-few : (r .made ≤ 16) × (r .made ≤ s .left)
+  served-few =
+      let few = calls-left t (view s) (serve (s .left) t (view s)) (v .sound .exact) (serve-calls (s .left) t (view s) refl (v .sound .exact)) in
+      let made : r .made ≡ length (serve (s .left) t (view s)) = ap (λ (z : Served). z .made) e in
+      (omega (arith, few, made, v .sane .left), omega (arith, few, made))
+
+  pub served-ranged : Ranged (r .session)
+  served-ranged = rw e (ranged-served s t v)
+
+-- ---- at the head of the loop: what is ahead, the ids in the array, and the second before which nothing is due
+module _ (o : Session) (b : List ℕ) (out : List ℤ) (n : ℕ) (got : List ℕ) where
+  pub record Turn (s : Session) (quiet : Seconds) (at from : ℕ) (now : List ℤ) : Type 0 where
+    pub ahead : Ahead o b out s at from now
+    pub named : take n got ≡ ids (view s .lines)
+    pub none-due : Quiet quiet (view s)
+
+  pub turn-start : Valid o → room (length b) ≤ length out → take n got ≡ ids (view o .lines) → Turn o (seconds 0) 0 0 out
+  turn-start v h e = record { ahead = ahead-start o b out v h; named = e; none-due = quiet-start (view o) }
+
+  module _ {s : Session} {quiet : Seconds} {at from to : ℕ} {now : List ℤ} (h : Turn s quiet at from now) (g : from < length b) (c : Cut from (length b) to) where
+    abbrev e : Event
+    e = read (take (to - from) (drop from b))
+
+    pub row-fits : at + 6 ≤ length now
+    row-fits = omega (arith, fewer b c, h .ahead .left, ahead-long o b out (h .ahead))
+
+    pub shifts-fit : (made : ℕ) → made ≤ s .left → at + 6 * made ≤ length now
+    shifts-fit made few = omega (arith, h .ahead .left, ahead-long o b out (h .ahead))
+
+    pub turn-refused : (why : EventReason) → verdict (view s) e ≡ EventAnswer.Refused why → {then : List ℤ}
+        → then ≡ written now at (row-numbers (Row.RefusedEvent why)) → Turn s quiet (at + 6) to then
+    turn-refused why said wrote =
+        record {
+          ahead =
+              ahead-turn o b out (h .ahead) g c (refused-with s why) (refused-is s e why said) (at + 6) (omega arith) _
+              (wrote ∙ ap (written now at) (sym (numbers-one (Row.RefusedEvent why))));
+          named = h .named;
+          none-due = h .none-due;
+        }
+
+    module _ (v : Taken) (o′ : Takes (view s) e v) {s′ : Session} {quiet′ : Seconds} {at′ : ℕ} {now′ : List ℤ} (k : Caught s (v .time) at now s′ quiet′ at′ now′) where
+      abbrev r : Served
+      r = record { shifts = k .shifts; made = k .made; session = s′ }
+
+      abbrev cs : List ShiftLine
+      cs = serve (s .left) (time e) (view s)
+
+      -- in the words of the event's own time
+      served : r ≡ served-as s cs
+      served = k .served ∙ ap (λ (t : Seconds). served-as s (serve (s .left) t (view s))) (o′ .timed)
+
+      caught-view : view s′ ≡ after cs (view s)
+      caught-view = ap (λ (z : Served). view (z .session)) served ∙ view-put s (after cs (view s))
+
+      caught-holds : s′ .hold ≡ s .hold
+      caught-holds = ap (λ (x : State). x .hold) caught-view ∙ after-kept cs (view s) .hold
+
+      pub turn-waits : (v .time .0 ≤ 172_800) × (s′ .hold .0 ≤ 3_600)
+      turn-waits = (
+        omega (arith, o′ .in-session, h .ahead .valid .sane .end),
+        rw caught-holds (h .ahead .valid .sane .hold .most),
+      )
+
+      pub turn-taken : (ch : Change) → v .change ≡ ch → (z : Session) → z ≡ moved-on s′ (lines-after s′ ch) (s′ .clock) → (later : Seconds)
+          → later ≡ until quiet′ (v .time) (s′ .hold) → Turn (moved-on z (z .lines) (v .time)) later at′ to now′
+      turn-taken ch ec z ez later el =
+          record {
+            ahead = ahead-turn o b out (h .ahead) g c (handed r z (v .time)) told at′ (k .on) now′ (k .told);
+            named = h .named ∙ sym (ap (λ (x : State). ids (x .lines)) then-view ∙ ids-applied e (after cs (view s)) ∙ ids-after cs (view s));
+            none-due = rw (then-view, el, o′ .timed, ap (λ (x : State). x .hold) caught-view) later-quiet;
+          }
+        where
+          told : handed r z (v .time) ≡ reply s e
+          told = event-taken s e v r o′ (k .served) ch ec z ez
+
+          then-view : view (moved-on z (z .lines) (v .time)) ≡ applied e (after cs (view s))
+          then-view =
+              ap (λ (q : Reply). view (q .session)) (told ∙ sym (accepted s e (o′ .accepted))) ∙ view-put s (applied e (after cs (view s)))
+
+          later-quiet : Quiet (until quiet′ (time e) (after cs (view s) .hold)) (applied e (after cs (view s)))
+          later-quiet =
+              quiet-applied quiet′ e (after cs (view s)) (after-judged cs (view s) (h .ahead .valid .sound .exact)) (subst (Quiet quiet′) caught-view (k .none-due))

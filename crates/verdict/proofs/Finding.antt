@@ -1,0 +1,57 @@
+-- The search for an id: none of the ids before i is it. Assumes nothing.
+use mathlib.Core.Path.{_≡_, refl, ap, _∙_}
+use mathlib.Core.Bool.{Bool, true, false, cond}
+use mathlib.Core.List.{List, [], _∷_}
+use Prim.Native.Nat.{ℕ, suc, _+_, _≤_, _<_}
+use native.Mathlib.Numerals.{add-one}
+use native.Mathlib.Omega.{arith}
+use borrow.Author.Tests.{eq-eqb, ne-eqb, lt-ltb, le-ltb}
+use lib.Dec.{eqb, ltb}
+use lib.ListN.{length, getD, drop}
+use lib.Seq.{drop-cons, drop-length}
+use Rattle.verdict.specs.Screened.{place-of}
+
+pub record Passed (id : ℕ) (ids : List ℕ) (i : ℕ) : Type 0 where
+  pub on : place-of id ids ≡ i + place-of id (drop i ids)
+
+pub passed-none : (id : ℕ) (ids : List ℕ) → Passed id ids 0
+passed-none id ids = record { on = omega arith }
+
+module _ (id : ℕ) (ids : List ℕ) (i : ℕ) (p : Passed id ids i) where
+  pub passed-turn : i < length ids → (getD ids i 0 ≡ id → ⊥) → Passed id ids (i + 1)
+  passed-turn h e = record { on = p .on ∙ later }
+    where
+      one : place-of id (drop i ids) ≡ suc (place-of id (drop (suc i) ids))
+      one = ap (place-of id) (drop-cons ids i 0 h) ∙ (unfold place-of in rw (ne-eqb (getD ids i 0) id e))
+
+      later : i + place-of id (drop i ids) ≡ i + 1 + place-of id (drop (i + 1) ids)
+      later = rw (add-one i) (omega (arith, one))
+
+  pub passed-found : i < length ids → getD ids i 0 ≡ id → i ≡ place-of id ids
+  passed-found h e = omega (arith, p .on, one)
+    where
+      one : place-of id (drop i ids) ≡ 0
+      one = ap (place-of id) (drop-cons ids i 0 h) ∙ (unfold place-of in rw (eq-eqb (getD ids i 0) id e))
+
+  pub passed-all : i ≡ length ids → i ≡ place-of id ids
+  passed-all e = omega (arith, p .on, one)
+    where
+      one : place-of id (drop i ids) ≡ 0
+      one = ap (λ (k : ℕ). place-of id (drop k ids)) e ∙ ap (place-of id) (drop-length ids) ∙ (unfold place-of in refl)
+
+-- every place is at most the number of ids, so one that is not that number is below it
+place-most : (id : ℕ) (ids : List ℕ) → place-of id ids ≤ length ids
+unfolding place-of
+place-most id [] = omega arith
+place-most id (j ∷ ids) = go (eqb j id) (place-most id ids)
+  where
+    go : (b : Bool) → place-of id ids ≤ length ids → cond b 0 (suc (place-of id ids)) ≤ suc (length ids)
+    go true h = omega arith
+    go false h = omega arith
+
+module _ (id : ℕ) (ids : List ℕ) {place : ℕ} (e : place ≡ place-of id ids) where
+  pub found-none : place ≡ length ids → ltb (place-of id ids) (length ids) ≡ false
+  found-none h = le-ltb (place-of id ids) (length ids) (omega arith)
+
+  pub found-one : (place ≡ length ids → ⊥) → ltb (place-of id ids) (length ids) ≡ true
+  found-one h = let most = place-most id ids in lt-ltb (place-of id ids) (length ids) (omega arith)

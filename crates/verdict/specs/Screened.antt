@@ -1,0 +1,36 @@
+-- What becomes of an event, from the ids of the table, the session's end and its clock. `Says` (proofs/Saying) ties it to the method's verdict.
+use mathlib.Core.Bool.{cond}
+use mathlib.Core.List.{List, [], _∷_}
+use Prim.Native.Nat.{ℕ, suc}
+use lib.Dec.{ltb, leb, eqb}
+use lib.ListN.{length}
+use Rattle.method.specs.Types.{demand}
+use Rattle.method.specs.Event.{not-crossed}
+use Rattle.verdict.specs.Names.{Seconds, Quote, Event, Damaged, Tick, Quoted, EventReason}
+use Rattle.verdict.specs.declared.Change.{Change}
+use Rattle.verdict.specs.declared.Verdict.{Verdict}
+
+-- how many ids stand before this one
+unfoldable pub place-of : ℕ → List ℕ → ℕ
+place-of id [] = 0
+place-of id (j ∷ ids) = cond (eqb j id) 0 (suc (place-of id ids))
+
+-- "Event order: 12, 10, 11, 13, 14; a tick meets neither 13 nor 14."
+unfoldable pub timely : Seconds → Seconds → Seconds → Verdict → Verdict
+timely end clock t onward =
+    demand (leb (t .0) (end .0)) (Verdict.Refused EventReason.AfterEnd)
+    (demand (leb (clock .0) (t .0)) (Verdict.Refused EventReason.BeforeClock) onward)
+
+abbrev pub placed-quote : List ℕ → Quote → Verdict
+placed-quote ids q =
+    Verdict.Taken (record { time = q .time; change = Change.Quote (record { place = place-of (q .id) ids; quote = q }) })
+
+unfoldable pub quote-screened : List ℕ → Quote → Verdict
+quote-screened ids q =
+    demand (ltb (place-of (q .id) ids) (length ids)) (Verdict.Refused EventReason.UnknownId)
+    (demand (not-crossed (q .bid) (q .ask)) (Verdict.Refused EventReason.Crossed) (placed-quote ids q))
+
+unfoldable pub screened : List ℕ → Seconds → Seconds → Event → Verdict
+screened ids end clock Damaged = Verdict.Refused EventReason.Malformed
+screened ids end clock (Tick t) = timely end clock t (Verdict.Taken (record { time = t; change = Change.Nothing }))
+screened ids end clock (Quoted q) = timely end clock (q .time) (quote-screened ids q)

@@ -1,0 +1,121 @@
+// Whether an event is taken, and what it then changes.
+
+ghost use mathlib.Core.Path.{_≡_};
+ghost use Rattle.method.specs.Event.{not-crossed};
+ghost use Rattle.verdict.specs.Screened.{place-of, timely, quote-screened, screened};
+use method::Event;
+use method::EventReason;
+use method::Price;
+use method::Quote;
+use numbers::Seconds;
+
+// A quote, and the place of its line in the table, from 0.
+pub struct PlacedQuote {
+    pub place: usize,
+    pub quote: Quote,
+}
+
+// What an event changes beside the clock: a tick nothing, a quote its line.
+pub enum Change {
+    Nothing,
+    Quote(PlacedQuote),
+}
+
+pub struct Taken {
+    pub time: Seconds,
+    pub change: Change,
+}
+
+pub enum Verdict {
+    Refused(EventReason),
+    Taken(Taken),
+}
+
+// A bid above the ask crosses; where one of them is absent nothing does.
+fn not_crossed(bid: Price, ask: Price) -> bool
+    ensures { λ r. ⌜ r ≡ not-crossed bid ask ⌝ }
+{
+    match bid {
+        Price::Absent => true,
+        Price::Given(b) => match ask {
+            Price::Absent => true,
+            Price::Given(a) => b.0 <= a.0,
+        },
+    }
+}
+
+// How many ids stand before this one, or how many there are where it is none of them.
+fn place_of(ids: &[u32], id: u32) -> usize
+    ensures { λ r. ⌜ r ≡ place-of id (now (ids .entry)) ⌝ }
+{
+    let n = ids.len();
+    let mut i: usize = 0;
+    let place = loop {
+        if i == n {
+            break i;
+        }
+        if ids[i] == id {
+            break i;
+        }
+        i = i + 1;
+    };
+    place
+}
+
+// Refusals 10 and 11; what comes after them is handed over.
+fn timely(end: Seconds, clock: Seconds, t: Seconds, onward: Verdict) -> Verdict
+    ensures { λ r. ⌜ r ≡ timely end clock t onward ⌝ }
+{
+    if end.0 < t.0 {
+        return Verdict::Refused(EventReason::AfterEnd);
+    }
+    if t.0 < clock.0 {
+        return Verdict::Refused(EventReason::BeforeClock);
+    }
+    onward
+}
+
+// Refusals 13 and 14.
+fn quote_screened(ids: &[u32], q: Quote) -> Verdict
+    ensures { λ r. ⌜ r ≡ quote-screened (now (ids .entry)) q ⌝ }
+{
+    let place = place_of(ids, q.id);
+    if place == ids.len() {
+        return Verdict::Refused(EventReason::UnknownId);
+    }
+    let bid = q.bid;
+    let ask = q.ask;
+    if !not_crossed(bid, ask) {
+        return Verdict::Refused(EventReason::Crossed);
+    }
+    let time = q.time;
+    Verdict::Taken(Taken {
+        time: time,
+        change: Change::Quote(PlacedQuote {
+            place: place,
+            quote: q,
+        }),
+    })
+}
+
+// What becomes of an event in a session of these ids, this end and this clock.
+pub fn screen(ids: &[u32], end: Seconds, clock: Seconds, e: Event) -> Verdict
+    ensures { λ r. ⌜ r ≡ screened (now (ids .entry)) end clock e ⌝ }
+{
+    match e {
+        Event::Damaged => Verdict::Refused(EventReason::Malformed),
+        Event::Tick(t) => timely(
+            end,
+            clock,
+            t,
+            Verdict::Taken(Taken {
+                time: t,
+                change: Change::Nothing,
+            }),
+        ),
+        Event::Quoted(q) => {
+            let time = q.time;
+            timely(end, clock, time, quote_screened(ids, q))
+        }
+    }
+}
