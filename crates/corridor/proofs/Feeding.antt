@@ -23,7 +23,7 @@ use Rattle.rows.proofs.Buffer.{nothing-written, written-on, written-long, numbe
 use Rattle.corridor.specs.Names.{Event, ShiftLine, EventAnswer}
 use Rattle.corridor.specs.declared.Session.{Session}
 use Rattle.corridor.specs.declared.Reply.{Reply}
-use Rattle.corridor.specs.declared.FeedAnswer.{FeedAnswer}
+use Rattle.corridor.specs.declared.RowsAnswer.{RowsAnswer}
 use Rattle.corridor.specs.View.{view, put, Valid}
 use Rattle.corridor.specs.Reply.{no-shift, reply-of}
 use Rattle.corridor.specs.Feeding.{room, answers-told, fed, fed-into}
@@ -51,7 +51,7 @@ kept : (s : State) (e : Event) (a : Answer) → length (next s e a .lines) ≡ l
 kept s e (accepted cs) = next-length s e cs
 kept s e (refused why) = unfold next in refl
 
-finally-kept : (s : State) (bs : List (List ℕ)) → length (finally s bs .lines) ≡ length (s .lines)
+pub finally-kept : (s : State) (bs : List (List ℕ)) → length (finally s bs .lines) ≡ length (s .lines)
 unfolding finally
 finally-kept s [] = refl
 finally-kept s (b ∷ bs) = finally-kept (next s (read b) (answer s (read b))) bs ∙ kept s (read b) (answer s (read b))
@@ -171,7 +171,7 @@ module _ (o : Session) (b : List ℕ) (out : List ℤ) where
     unfolding finally
     state-all = h .session ∙ ap (λ (z : List (List ℕ)). put s (finally (view s) z)) none-left ∙ put-view (h .valid)
 
-    pub all-fed : record { answer = FeedAnswer.Written at; session = s } ≡ fed o (length out) b
+    pub all-fed : record { answer = RowsAnswer.Written at; session = s } ≡ fed o (length out) b
     unfolding fed
     all-fed = rw (le-ltb (length out) (room (length b)) enough, told-all, state-all, h .long) refl
 
@@ -184,7 +184,7 @@ module _ (s : Session) (out : List ℤ) (b : List ℕ) {k : ℕ} (e : k ≡ room
   short : ltb (length out) (room (length b)) ≡ true
   short = lt-ltb (length out) (room (length b)) (omega arith)
 
-  pub nothing-fed : record { answer = FeedAnswer.NoRoom k; session = s } ≡ fed s (length out) b
+  pub nothing-fed : record { answer = RowsAnswer.NoRoom k; session = s } ≡ fed s (length out) b
   unfolding fed
   nothing-fed = rw (short, e) refl
 

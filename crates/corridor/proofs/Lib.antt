@@ -14,3 +14,4 @@ pub mod Theorems
 pub mod Cutting
 pub mod Feeding
 pub mod Turns
+pub mod Chunks

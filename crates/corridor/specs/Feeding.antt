@@ -10,7 +10,7 @@ use Rattle.method.specs.Search.{run, finally}
 use Rattle.method.specs.Program.{rows-of-all, events-of, numbers-of}
 use Rattle.rows.specs.Buffer.{written}
 use Rattle.corridor.specs.declared.Session.{Session}
-use Rattle.corridor.specs.declared.FeedAnswer.{FeedAnswer}
+use Rattle.corridor.specs.declared.RowsAnswer.{RowsAnswer}
 use Rattle.corridor.specs.declared.Fed.{Fed}
 use Rattle.corridor.specs.View.{view, put}
 
@@ -27,12 +27,19 @@ cut-at from size = cond (ltb (size - from) 20) size (from + 20)
 abbrev pub answers-told : State → List (List ℕ) → List ℤ
 answers-told s events = numbers-of (rows-of-all (run s events))
 
+-- the numbers that a session tells for the bytes b, and the session that they leave
+abbrev pub told : Session → List ℕ → List ℤ
+told s b = answers-told (view s) (events-of b)
+
+abbrev pub left-by : Session → List ℕ → Session
+left-by s b = put s (finally (view s) (events-of b))
+
 -- what is handed back for the bytes b and a buffer of so many numbers
 unfoldable pub fed : Session → ℕ → List ℕ → Fed
 fed s size b =
-    cond (ltb size (room (length b))) (record { answer = FeedAnswer.NoRoom (room (length b)); session = s })
-    (record { answer = FeedAnswer.Written (length (answers-told (view s) (events-of b))); session = put s (finally (view s) (events-of b)) })
+    cond (ltb size (room (length b))) (record { answer = RowsAnswer.NoRoom (room (length b)); session = s })
+    (record { answer = RowsAnswer.Written (length (told s b)); session = left-by s b })
 
 -- what the buffer holds then
 unfoldable pub fed-into : Session → List ℤ → List ℕ → List ℤ
-fed-into s out b = cond (ltb (length out) (room (length b))) out (written out 0 (answers-told (view s) (events-of b)))
+fed-into s out b = cond (ltb (length out) (room (length b))) out (written out 0 (told s b))

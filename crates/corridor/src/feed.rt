@@ -7,7 +7,7 @@ ghost use Rattle.corridor.specs.View.{Valid};
 ghost use Rattle.corridor.specs.Quiet.{until};
 ghost use Rattle.corridor.specs.Feeding.{room, cut-at, fed, fed-into};
 use crate::Fed;
-use crate::FeedAnswer;
+use crate::RowsAnswer;
 use crate::Session;
 use method::Row;
 use numbers::Seconds;
@@ -61,7 +61,7 @@ impl Session {
         let needed = room(size);
         if out.len() < needed {
             return Fed {
-                answer: FeedAnswer::NoRoom(needed),
+                answer: RowsAnswer::NoRoom(needed),
                 session: self,
             };
         }
@@ -113,7 +113,7 @@ impl Session {
             }
         }
         Fed {
-            answer: FeedAnswer::Written(at),
+            answer: RowsAnswer::Written(at),
             session: self,
         }
     }

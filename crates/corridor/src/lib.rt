@@ -11,6 +11,7 @@ use method::TableAnswer;
 use numbers::Millionths;
 use numbers::Seconds;
 
+pub mod closing;
 pub mod event;
 pub mod feed;
 pub mod questions;
@@ -50,15 +51,15 @@ pub struct Reply {
     pub session: Session,
 }
 
-// The answer to a buffer of events: how many numbers were written, or how many the lent buffer would have to take, and nothing done.
-pub enum FeedAnswer {
+// The answer that is written in rows: how many numbers there are, or how many the lent buffer would have to take, and nothing done.
+pub enum RowsAnswer {
     Written(usize),
     NoRoom(usize),
 }
 
 // The answer to a buffer of events, and beside it the session.
 pub struct Fed {
-    pub answer: FeedAnswer,
+    pub answer: RowsAnswer,
     pub session: Session,
 }
 

@@ -32,7 +32,7 @@ fn market_bounds(centre: Steps, half: Steps) -> BothBounds
     }
 }
 
-fn interest_bounds(l: Line) -> BothBounds
+pub(crate) fn interest_bounds(l: Line) -> BothBounds
     requires { ⌜ Drawn (l .terms) (l .market) ⌝ }
     ensures { λ r. ⌜ r ≡ interest-bounds l ⌝ }
 {

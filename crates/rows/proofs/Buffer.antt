@@ -3,14 +3,13 @@ use mathlib.Core.Path.{_≡_, refl, sym, ap, _∙_}
 use mathlib.Core.List.{List, [], _∷_, _++_, map, append-assoc, append-nil, map-append}
 use Prim.Native.Nat.{ℕ, _+_, _*_, _<_, _≤_}
 use native.Mathlib.Omega.{arith}
-use native.Mathlib.Nat.{add-assoc}
+use native.Mathlib.Nat.{add-assoc, zero-add}
 use native.Mathlib.Numerals.{add-one}
 use lib.IntN.{ℤ}
 use lib.ListN.{length, getD, set, take, drop, length-append, length-drop, length-map}
 use lib.Seq.{paste, paste-zero, paste-suc, take-suc, take-length, length-take-le, take-at, drop-at, drop-drop}
 use Rattle.method.specs.declared.Row.{Row}
 use Rattle.method.specs.declared.Row.the-variants as Row
-use Rattle.method.specs.declared.ShiftLine.{ShiftLine}
 use Rattle.method.specs.Program.{row-numbers, numbers-of}
 use Rattle.rows.specs.Buffer.{written}
 
@@ -44,6 +43,12 @@ module _ (out : List ℤ) (at : ℕ) (xs : List ℤ) (room : at + length xs ≤ 
       (take-at (take at out ++ xs) (drop (at + length xs) out) (at + length xs) head-long, rest-kept (length ys), length-append xs ys)
       (rw (append-assoc (take at out) xs ys, add-assoc at (length xs) (length ys)))
 
+-- what is written into the part from `at` on
+pub written-rest : (out : List ℤ) (at : ℕ) (xs : List ℤ) → take at out ++ written (drop at out) 0 xs ≡ written out at xs
+written-rest out at xs =
+    sym (append-assoc (take at out) xs (drop (0 + length xs) (drop at out)))
+    ∙ ap (λ (k : ℕ). take at out ++ xs ++ drop k (drop at out)) (zero-add (length xs)) ∙ ap (λ (ys : List ℤ). take at out ++ xs ++ ys) (drop-drop (length xs) at out)
+
 -- ---- rows in numbers
 pub row-long : (r : Row) → length (row-numbers r) ≡ 6
 unfolding row-numbers
@@ -63,29 +68,29 @@ numbers-append (r ∷ rs) qs = rw (numbers-append rs qs) (sym (append-assoc (row
 pub numbers-one : (r : Row) → numbers-of (r ∷ []) ≡ row-numbers r
 numbers-one r = append-nil (row-numbers r)
 
--- ---- shift lines, row by row
-module _ (out : List ℤ) (at : ℕ) (cs : List ShiftLine) (i : ℕ) (more : i < length cs) (room : at + 6 * (i + 1) ≤ length out) where
+-- ---- things that have a row each, one after another
+module _ {A : Type 0} (row-of : A → Row) (out : List ℤ) (at : ℕ) (xs : List A) (i : ℕ) (more : i < length xs) (room : at + 6 * (i + 1) ≤ length out) where
   abbrev first : List ℤ
-  first = numbers-of (map Row.Shift (take i cs))
+  first = numbers-of (map row-of (take i xs))
 
   first-long : length first ≡ 6 * i
   first-long =
-      numbers-long (map Row.Shift (take i cs)) ∙ ap (λ (n : ℕ). 6 * n) (length-map (take i cs) Row.Shift ∙ length-take-le i cs (omega arith))
+      numbers-long (map row-of (take i xs)) ∙ ap (λ (n : ℕ). 6 * n) (length-map (take i xs) row-of ∙ length-take-le i xs (omega arith))
 
-  abbrev row : ShiftLine → List ℤ
-  row z = row-numbers (Row.Shift (getD cs i z))
+  abbrev row : A → List ℤ
+  row d = row-numbers (row-of (getD xs i d))
 
-  joined : (z : ShiftLine) → first ++ row z ≡ numbers-of (map Row.Shift (take (i + 1) cs))
-  joined z =
-      sym (ap (λ (n : ℕ). numbers-of (map Row.Shift (take n cs))) (add-one i) ∙ ap (λ (ds : List ShiftLine). numbers-of (map Row.Shift ds)) (take-suc cs i z more)
-      ∙ ap numbers-of (map-append Row.Shift (take i cs) (getD cs i z ∷ [])) ∙ numbers-append (map Row.Shift (take i cs)) (Row.Shift (getD cs i z) ∷ [])
-      ∙ ap (λ (ns : List ℤ). first ++ ns) (numbers-one (Row.Shift (getD cs i z))))
+  joined : (d : A) → first ++ row d ≡ numbers-of (map row-of (take (i + 1) xs))
+  joined d =
+      sym (ap (λ (n : ℕ). numbers-of (map row-of (take n xs))) (add-one i) ∙ ap (λ (ys : List A). numbers-of (map row-of ys)) (take-suc xs i d more)
+      ∙ ap numbers-of (map-append row-of (take i xs) (getD xs i d ∷ [])) ∙ numbers-append (map row-of (take i xs)) (row-of (getD xs i d) ∷ [])
+      ∙ ap (λ (ns : List ℤ). first ++ ns) (numbers-one (row-of (getD xs i d))))
 
-  -- the next shift line's row after those before it
-  pub row-on : {now next : List ℤ} (z : ShiftLine) → now ≡ written out at first → next ≡ written now (at + 6 * i) (row z)
-      → next ≡ written out at (numbers-of (map Row.Shift (take (i + 1) cs)))
-  row-on z e f =
-      f ∙ rw (e, sym first-long) (written-on out at first (omega (arith, first-long)) (row z)) ∙ ap (written out at) (joined z)
+  -- the next row after those before it
+  pub row-on : {now next : List ℤ} (d : A) → now ≡ written out at first → next ≡ written now (at + 6 * i) (row d)
+      → next ≡ written out at (numbers-of (map row-of (take (i + 1) xs)))
+  row-on d e f =
+      f ∙ rw (e, sym first-long) (written-on out at first (omega (arith, first-long)) (row d)) ∙ ap (written out at) (joined d)
 
-  pub long-on : (now : List ℤ) {next : List ℤ} (z : ShiftLine) → length now ≡ length out → next ≡ written now (at + 6 * i) (row z) → length next ≡ length out
-  long-on now z same f = ap length f ∙ written-long now (at + 6 * i) (row z) (omega (arith, row-long (Row.Shift (getD cs i z)))) ∙ same
+  pub long-on : (now : List ℤ) {next : List ℤ} (d : A) → length now ≡ length out → next ≡ written now (at + 6 * i) (row d) → length next ≡ length out
+  long-on now d same f = ap length f ∙ written-long now (at + 6 * i) (row d) (omega (arith, row-long (row-of (getD xs i d)))) ∙ same

@@ -51,8 +51,8 @@ loop-again c =
     let more = c .before .before .before .before .loop-test .taken in
     let e = c .before .write .ensures in (
       omega arith,
-      row-on (now (s .args .out)) (s .args .at) (s .args .t3) (at .i) (omega arith) (omega arith) _ (at .inv .1) e,
-      long-on (now (s .args .out)) (s .args .at) (s .args .t3) (at .i) (omega arith) (omega arith) (at .out) _ (at .inv .2) e,
+      row-on Row.Shift (now (s .args .out)) (s .args .at) (s .args .t3) (at .i) (omega arith) (omega arith) _ (at .inv .1) e,
+      long-on Row.Shift (now (s .args .out)) (s .args .at) (s .args .t3) (at .i) (omega arith) (omega arith) (at .out) _ (at .inv .2) e,
     )
 
 mul-result : tie.Need-mul-result Inv-loop μ-loop

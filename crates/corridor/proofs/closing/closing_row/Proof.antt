@@ -1,0 +1,16 @@
+-- `corridor::closing::closing_row` meets its contract. Assumes nothing.
+use borrow.Author.Needs.{needs}
+use Rattle.method.specs.Program.{closing-row}
+use Rattle.method.specs.Report.{interest-bounds}
+use Rattle.corridor.proofs.closing.closing_row.Statement.{statement}
+use Rattle.corridor.proofs.closing.closing_row.Tie as tie
+
+interest-bounds-requires : tie.Need-interest-bounds-requires
+interest-bounds-requires c κs = search needs
+
+returns : tie.Need-returns
+unfolding closing-row interest-bounds
+returns c = rw (c .before .before .interest-bounds .ensures)
+
+pub closing-row-spec : {M : Type 1} → statement M
+closing-row-spec = tie.close (tie.spec interest-bounds-requires returns)
