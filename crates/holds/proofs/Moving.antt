@@ -1,5 +1,6 @@
 -- What the steps of a shift come to fits an `i64`, from what they ask; and from what a moved line asks to what its parts ask.
 -- Assumes nothing.
+use mathlib.Core.Path.{_≡_}
 use lib.Dec.{lit<, lit≤}
 use lib.IntN.{ℤ, _+ℤ_, _-ℤ_}
 use mir.Syntax.{w64}
@@ -37,9 +38,11 @@ module _ {k : Limits} {a b : ℤ} (q : Carried k a b) where
 
 pub ruleset carries = (rise-fits, fall-fits, raised-fits, lowered-fits)
 
--- ---- the two bounds of a side, before and after
-pub redrawable-carried : {t : Terms} {m n : Market} {k : Limits} → Redrawable t m n k → (side : Side) → Carried k (bound side t m) (bound side t n)
-redrawable-carried q side = record { limits = q .limits; from = drawn-within (q .from) side; to = drawn-within (q .to) side }
+-- ---- what a limit goes with: bounds, and any number whose range is known
+pub bound-in-reach : (side : Side) {t : Terms} {m : Market} {z : ℤ} → z ≡ bound side t m → Drawn t m → Within 2_970_000_000 z
+bound-in-reach side e d = rw e (drawn-within d side)
+
+pub ruleset reaches = (bound-in-reach, within-more)
 
 -- ---- a line's market and limits
 module _ {l : Line} (q : Shiftable l) where

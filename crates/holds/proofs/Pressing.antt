@@ -11,8 +11,8 @@ use Rattle.numbers.proofs.Ranges.{fits, within-more, within-sub, within-mul, wi
 use Rattle.numbers.proofs.Machine.{cast-back}
 use Rattle.method.specs.Pressure.{price}
 use Rattle.method.specs.Ranges.{PriceIn, BookIn}
-use Rattle.holds.specs.Names.{Side, Up, Down, Steps, Millionths, Limits, Price, Given, Book}
-use Rattle.holds.specs.Asks.{Apart, Tested}
+use Rattle.holds.specs.Names.{Side, Up, Down, Steps, Limits, Price, Given, Book}
+use Rattle.holds.specs.Asks.{Apart}
 
 module _ {near : ℕ} {k : Limits} {a b : ℤ} (q : Apart near k a b) where
   pub distance-fits : SFits w64 (a -ℤ b)
@@ -33,16 +33,9 @@ module _ {near : ℕ} {k : Limits} {a b : ℤ} (q : Apart near k a b) where
 pub ruleset distances = (distance-fits, width-fits, distance-product, width-product, share-fits, cast-back)
 
 -- ---- a price that is given
-given-in : {x : Price} {p : Steps} → x ≡ Given p → PriceIn x → Within 2_970_000_000 (p .0)
+pub given-in : {x : Price} {p : Steps} → x ≡ Given p → PriceIn x → Within 2_970_000_000 (p .0)
 unfolding PriceIn
 given-in {x} {p} e h = within-more (subst PriceIn e h) (lit≤ tt)
-
-module _ {near : Millionths} {k : Limits} {x : Price} (q : Tested near k x) {p : Steps} (e : x ≡ Given p) where
-  pub tested-up : Apart (near .0) k (k .upper .0) (p .0)
-  tested-up = record { share = q .share; limits = q .limits; from = q .limits .upper; to = given-in e (q .price) }
-
-  pub tested-down : Apart (near .0) k (p .0) (k .lower .0)
-  tested-down = record { share = q .share; limits = q .limits; from = given-in e (q .price); to = q .limits .lower }
 
 pub price-in : (side : Side) {b : Book} → BookIn b → PriceIn (price side b)
 price-in Up q = q .bid

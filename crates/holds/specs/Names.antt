@@ -13,3 +13,5 @@ pub use Rattle.method.specs.declared.Book.{Book}
 pub use Rattle.method.specs.declared.Hold.{Hold}
 pub use Rattle.method.specs.declared.Hold.the-variants.{Since}
 pub use Rattle.method.specs.declared.Line.{Line}
+pub use Rattle.method.specs.declared.Found.{Found}
+pub use Rattle.method.specs.declared.Found.the-variants.{Nothing, At}

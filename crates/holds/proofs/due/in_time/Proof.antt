@@ -1,8 +1,10 @@
 -- `holds::due::in_time` meets its contract. Assumes nothing.
 use borrow.Author.Needs.{needs}
 use borrow.Author.Tests.{lt-ltb, le-ltb, le-leb, lt-leb}
+use mathlib.Core.Path.{sym}
 use native.Mathlib.Omega.{arith}
 use Rattle.method.specs.Search.{in-time}
+use Rattle.holds.proofs.Finding.{none-left}
 use Rattle.holds.proofs.due.in_time.Statement.{statement}
 use Rattle.holds.proofs.due.in_time.Tie as tie
 
@@ -18,11 +20,13 @@ returns c = rw (c .before .before .before .d .given .1, lt-ltb _ _ (c .if1 .take
 
 returns-2 : tie.Need-returns-2
 unfolding in-time
-returns-2 c = rw (c .before .before .before .before .before .d .given .1, le-ltb _ _ (c .before .before .if1 .left), le-leb _ _ (c .if2 .taken))
+returns-2 c =
+    let d = c .before .before .before .before .before .d .given in
+    let end = c .before .before .before .before .before .before .before .args .end in
+    rw (d .1, le-ltb _ _ (c .before .before .if1 .left), le-leb (end .0) (d .0 .0 .second .0) (omega (arith, c .if2 .taken)))
 
 returns-3 : tie.Need-returns-3
-unfolding in-time
-returns-3 c = rw (c .before .before .before .before .before .before .d .given .1, le-ltb _ _ (c .before .before .before .if1 .left), lt-leb _ _ (c .before .if2 .left), le-ltb 0 (c .before .before .before .before .before .before .before .before .args .left) (omega (arith, c .if3 .taken)))
+returns-3 c = sym (none-left _ _ _ _ (c .if3 .taken))
 
 returns-4 : tie.Need-returns-4
 unfolding in-time

@@ -1,7 +1,7 @@
 -- `holds::pressure::close` meets its contract. Assumes nothing.
 use borrow.Author.Needs.{needs}
 use Rattle.method.specs.Pressure.{close}
-use Rattle.holds.proofs.Pressing.{tested-up, tested-down}
+use Rattle.holds.proofs.Pressing.{given-in}
 use Rattle.holds.proofs.pressure.close.Statement.{statement}
 use Rattle.holds.proofs.pressure.close.Tie as tie
 
@@ -15,7 +15,7 @@ enum-told-2 : tie.Need-enum-told-2
 enum-told-2 c = search needs
 
 near-by-requires : tie.Need-near-by-requires
-near-by-requires c κs = tested-up (c .before .before .before .before .before .pre) (c .before .before .before .p .given .1)
+near-by-requires c κs = search (needs, given-in)
 
 enum-told-3 : tie.Need-enum-told-3
 enum-told-3 c = search needs
@@ -25,7 +25,7 @@ unfolding close
 returns c = rw (c .before .before .before .before .p .given .1, c .before .enum-told3 .given .1, c .if1 .taken)
 
 near-by-requires-2 : tie.Need-near-by-requires-2
-near-by-requires-2 c κs = tested-down (c .before .before .before .before .before .before .pre) (c .before .before .before .before .p .given .1)
+near-by-requires-2 c κs = search (needs, given-in)
 
 returns-2 : tie.Need-returns-2
 unfolding close

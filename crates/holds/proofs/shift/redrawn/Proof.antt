@@ -1,7 +1,7 @@
 -- `holds::shift::redrawn` meets its contract. Assumes nothing.
 use borrow.Author.Needs.{needs}
 use Rattle.method.specs.Shift.{redrawn}
-use Rattle.holds.proofs.Moving.{redrawable-carried}
+use Rattle.holds.proofs.Moving.{reaches}
 use Rattle.holds.proofs.shift.redrawn.Statement.{statement}
 use Rattle.holds.proofs.shift.redrawn.Tie as tie
 
@@ -15,7 +15,7 @@ enum-told : tie.Need-enum-told
 enum-told c = search needs
 
 raised-requires : tie.Need-raised-requires
-raised-requires c κs = rw (c .before .before .bound2 .ensures, c .before .before .before .bound .ensures) (redrawable-carried (c .before .before .before .before .pre) (c .before .before .before .before .args .side))
+raised-requires c κs = search (needs, reaches)
 
 enum-told-2 : tie.Need-enum-told-2
 enum-told-2 c = search needs
@@ -24,7 +24,7 @@ bit-0-requires : tie.Need-bit-0-requires
 bit-0-requires c κs = search needs
 
 lowered-requires : tie.Need-lowered-requires
-lowered-requires c κs = rw (c .before .before .before .bound2 .ensures, c .before .before .before .before .bound .ensures) (redrawable-carried (c .before .before .before .before .before .pre) (c .before .before .before .before .before .args .side))
+lowered-requires c κs = search (needs, reaches)
 
 floored-requires : tie.Need-floored-requires
 floored-requires c κs = search needs
