@@ -1,4 +1,5 @@
 -- What the steps of the bounds come to fits an `i64`, from what they ask. Assumes nothing.
+use mathlib.Core.Path.{_≡_, refl}
 use Prim.Native.Nat.{ℕ, _≤_, _<_, _^_}
 use native.Mathlib.Omega.{arith}
 use lib.Dec.{lit<}
@@ -8,9 +9,10 @@ use mir.Val.{SFits}
 use Rattle.numbers.specs.Ranges.{Within}
 use Rattle.numbers.proofs.Ranges.{fits, within-add, within-sub, within-mul, within-pos}
 use Rattle.numbers.proofs.Machine.{cast-back}
-use Rattle.method.specs.Bounds.{market-bound, factor, bound}
+use Rattle.method.specs.Bounds.{market-bound, factor, interest, bound}
 use Rattle.method.proofs.Rooms.{factor-in, interest-within}
 use Rattle.line.specs.Names.{Side, Up, Down, Steps, Terms, Market}
+use Rattle.line.specs.Rounding.{rounded}
 use Rattle.line.specs.Asks.{Drawn}
 
 pub sum-fits : {x y : ℤ} → Within 900_000_000 x → Within 900_000_000 y → SFits w64 (x +ℤ y)
@@ -28,6 +30,11 @@ pub product-fits : {f : ℕ} {z : ℤ} → f ≤ 1_650_000_000 → Within 1_800_
 product-fits h w = fits (within-mul w (within-pos h)) (lit< tt)
 
 pub ruleset products = (factor-fits, product-fits, cast-back)
+
+pub interest-is : (side : Side) (f : ℕ) (z : ℤ) → interest side f z ≡ rounded side (z *ℤ pos f) 1_000_000_000
+unfolding interest
+interest-is Up f z = refl
+interest-is Down f z = refl
 
 -- ---- what a bound's parts are asked
 module _ {t : Terms} {m : Market} (d : Drawn t m) where

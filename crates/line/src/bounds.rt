@@ -5,6 +5,7 @@ ghost use Prim.Native.Nat.{_≤_};
 ghost use Rattle.numbers.specs.Ranges.{Within};
 ghost use Rattle.method.specs.Bounds.{market-bound, factor, interest, bound};
 ghost use Rattle.line.specs.Asks.{Drawn};
+use crate::rounding;
 use method::Market;
 use method::Side;
 use method::Terms;
@@ -49,10 +50,7 @@ fn interest(side: Side, f: Billionths, z: Steps) -> Steps
     ensures { λ r. ⌜ r .0 ≡ interest side (f .0) (z .0) ⌝ }
 {
     let product = z.0 * (f.0 as i64);
-    match side {
-        Side::Up => Steps(numbers::ceiling(product, 1000000000)),
-        Side::Down => Steps(numbers::floor(product, 1000000000)),
-    }
+    rounding::rounded(side, product, 1000000000)
 }
 
 // The interest bound of a side.

@@ -3,3 +3,4 @@
 pub mod bounds;
 pub mod limits;
 pub mod opening;
+mod rounding;

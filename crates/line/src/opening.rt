@@ -12,6 +12,7 @@ ghost use Rattle.method.specs.Ranges.{ContractIn};
 ghost use Rattle.line.specs.Asks.{Drawn, Spanned};
 use crate::bounds;
 use crate::limits;
+use crate::rounding;
 use method::Book;
 use method::Contract;
 use method::Hold;
@@ -118,7 +119,7 @@ fn half_width(c: Contract, rate: Millionths) -> Steps
 {
     let normal = normal_price(c);
     let factor = (rate.0 as u64) as i64;
-    Steps(numbers::ceiling(normal.0 * factor, 1000000))
+    rounding::rounded(Side::Up, normal.0 * factor, 1000000)
 }
 
 pub fn market(c: Contract) -> Market
@@ -142,7 +143,7 @@ fn half_move(shift: Millionths, half1: Steps) -> Steps
     ensures { λ r. ⌜ r ≡ half-move shift half1 ⌝ }
 {
     let share = (shift.0 as u64) as i64;
-    Steps(numbers::floor(share * half1.0, 2000000))
+    rounding::rounded(Side::Down, share * half1.0, 2000000)
 }
 
 // What stays for the session. The flags are rebuilt from their two bits.
@@ -167,7 +168,7 @@ fn corridor_half(width: Millionths, t: Terms, m: Market) -> Steps
     let upper = bounds::bound(Side::Up, t, m);
     let lower = bounds::bound(Side::Down, t, m);
     let share = (width.0 as u64) as i64;
-    Steps(numbers::floor(share * (upper.0 - lower.0), 2000000))
+    rounding::rounded(Side::Down, share * (upper.0 - lower.0), 2000000)
 }
 
 // The limits P + half and P - half, before they are held against their bounds.
@@ -226,8 +227,10 @@ pub fn opened_with(width: Millionths, t: Terms, m: Market) -> LineAnswer
         return LineAnswer::Refused(TableReason::HalfMove);
     }
     let k = corridor(width, t, m);
-    if !inside_bounds(t, m, k) {
-        return LineAnswer::Refused(TableReason::Corridor);
+    let line = fresh_line(t, m, k);
+    // The limits before the floor: a lower limit beyond its bound is refused, though the floor would lift it.
+    if inside_bounds(t, m, k) {
+        return LineAnswer::Opened(line);
     }
-    LineAnswer::Opened(fresh_line(t, m, k))
+    LineAnswer::Refused(TableReason::Corridor)
 }

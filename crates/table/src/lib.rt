@@ -238,10 +238,12 @@ fn open_line(
     requires { ⌜ Ready shift keys n × (count ≤ 32) ⌝ }
     ensures { λ r. ⌜ r ≡ open-line shift (take n keys) (take count lines) c ⌝ }
 {
-    if !line::opening::fields_good(c) {
+    let good_fields = line::opening::fields_good(c);
+    let good_id = id_good(lines, count, c.id);
+    if !good_fields {
         return LineAnswer::Refused(TableReason::Field);
     }
-    if !id_good(lines, count, c.id) {
+    if !good_id {
         return LineAnswer::Refused(TableReason::Id);
     }
     let y = growth::exponent(growth::rate_at(keys, n, c.days), c.days);

@@ -13,15 +13,15 @@ cast-share c = search needs
 cast-share-2 : tie.Need-cast-share-2
 cast-share-2 c = search needs
 
-mul-floor : tie.Need-mul-floor
-mul-floor c = search (needs, moves)
+mul-rounded : tie.Need-mul-rounded
+mul-rounded c = search (needs, moves)
 
-floor-requires : tie.Need-floor-requires
-floor-requires c κs = search needs
+rounded-requires : tie.Need-rounded-requires
+rounded-requires c κs = search needs
 
 returns : tie.Need-returns
 unfolding half-move
-returns c = ap steps ((search needs) ∙ (c .floor .ensures ∙ (search (needs, moves))))
+returns c = ap steps (c .rounded .ensures ∙ (search (needs, moves)))
 
 pub half-move-spec : {M : Type 1} → statement M
-half-move-spec = tie.close (tie.spec cast-share cast-share-2 mul-floor floor-requires returns)
+half-move-spec = tie.close (tie.spec cast-share cast-share-2 mul-rounded rounded-requires returns)

@@ -16,17 +16,17 @@ cast-factor c = search needs
 cast-factor-2 : tie.Need-cast-factor-2
 cast-factor-2 c = search needs
 
-mul-ceiling : tie.Need-mul-ceiling
-mul-ceiling c = width-fits (c .before .before .before .before .args .c) (c .before .before .before .before .pre .0) (c .before .before .before .before .args .rate .0) (c .before .before .before .before .pre .1) (c .before .before .before .normal-price .result .0) (c .before .before .before .normal-price .ensures)
+mul-rounded : tie.Need-mul-rounded
+mul-rounded c = width-fits (c .before .before .before .before .args .c) (c .before .before .before .before .pre .0) (c .before .before .before .before .args .rate .0) (c .before .before .before .before .pre .1) (c .before .before .before .normal-price .result .0) (c .before .before .before .normal-price .ensures)
 
-ceiling-requires : tie.Need-ceiling-requires
-ceiling-requires c κs = search needs
+rounded-requires : tie.Need-rounded-requires
+rounded-requires c κs = search needs
 
 returns : tie.Need-returns
 unfolding half-width
-returns c = ap steps ((search needs) ∙ (c .ceiling .ensures ∙ width-is (c .before .before .before .before .before .args .c) (c .before .before .before .before .before .pre .0) (c .before .before .before .before .before .args .rate .0) (c .before .before .before .before .before .pre .1) (c .before .before .before .before .normal-price .result .0) (c .before .before .before .before .normal-price .ensures)))
+returns c = ap steps (c .rounded .ensures ∙ width-is (c .before .before .before .before .before .args .c) (c .before .before .before .before .before .pre .0) (c .before .before .before .before .before .args .rate .0) (c .before .before .before .before .before .pre .1) (c .before .before .before .before .normal-price .result .0) (c .before .before .before .before .normal-price .ensures))
 
 pub half-width-spec : {M : Type 1} → statement M
 half-width-spec =
     tie.close
-    (tie.spec normal-price-requires cast-factor cast-factor-2 mul-ceiling ceiling-requires returns)
+    (tie.spec normal-price-requires cast-factor cast-factor-2 mul-rounded rounded-requires returns)
