@@ -1,5 +1,5 @@
 /*
- * draft.c: turns drafted fields into the little-endian bytes of the paper.
+ * draft.c: turns drafted fields into the little-endian bytes of the paper, and back.
  */
 #include "draft.h"
 
@@ -49,6 +49,16 @@ size_t draft_write_table(const TableDraft *draft, uint8_t *bytes)
 size_t draft_write_event(const EventDraft *event, uint8_t *bytes)
 {
     return write_fields(event->fields, EVENT_FIELDS, bytes);
+}
+
+EventDraft draft_read_event(const uint8_t *bytes)
+{
+    EventDraft event;
+    for (size_t i = 0; i < EVENT_FIELDS; i++) {
+        event.fields[i] = (uint32_t)bytes[4 * i] | (uint32_t)bytes[4 * i + 1] << 8 | (uint32_t)bytes[4 * i + 2] << 16
+            | (uint32_t)bytes[4 * i + 3] << 24;
+    }
+    return event;
 }
 
 EventDraft draft_tick(uint32_t time)

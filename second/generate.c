@@ -2,13 +2,12 @@
  * generate.c: makes inputs worth comparing. It follows each session with the engine, so that quotes land
  * on the border of pressure and times on due seconds, one second to either side of them, and on the
  * session end.
- *
- * No expression here draws two random numbers without a sequence between them, since C leaves the order of
- * such draws open and the inputs would then differ between compilers.
  */
 #include "generate.h"
 
 #include "draft.h"
+#include "input.h"
+#include "random.h"
 
 #include <string.h>
 
@@ -19,34 +18,7 @@ static const int64_t MOST_TABLE_PRICE = 100000000;
 static const int64_t MOST_QUOTE_PRICE = 2000000000;
 static const int64_t MOST_DAYS = 3650;
 
-/* ---- Random numbers (splitmix64) ---- */
-
-typedef struct { uint64_t state; } Random;
-
-static uint64_t draw(Random *random)
-{
-    random->state += UINT64_C(0x9e3779b97f4a7c15);
-    uint64_t mixed = random->state;
-    mixed = (mixed ^ mixed >> 30) * UINT64_C(0xbf58476d1ce4e5b9);
-    mixed = (mixed ^ mixed >> 27) * UINT64_C(0x94d049bb133111eb);
-    return mixed ^ mixed >> 31;
-}
-
-/* A number from least to most, both included. */
-static int64_t between(Random *random, int64_t least, int64_t most)
-{
-    return least + (int64_t)(draw(random) % (uint64_t)(most - least + 1));
-}
-
-static uint32_t count_between(Random *random, uint32_t least, uint32_t most)
-{
-    return (uint32_t)between(random, least, most);
-}
-
-static bool chance(Random *random, int64_t percent)
-{
-    return between(random, 1, 100) <= percent;
-}
+/* ---- Numbers ---- */
 
 static int64_t clamp(int64_t value, int64_t least, int64_t most)
 {
@@ -658,8 +630,8 @@ size_t generate_input(uint64_t seed, uint64_t number, uint8_t input[LONGEST_INPU
         return (size_t)between(&random, 0, (int64_t)length - (length > 0));
     }
     Course course = {.random = &random};
-    size_t table_length = length < HEADER_BYTES ? length : corridor_table_length(input);
-    if (table_length <= length && corridor_open(input, table_length, &course.session).kind == ACCEPTED) {
+    size_t table_length = input_of(input, length).table_length;
+    if (corridor_open(input, table_length, &course.session).kind == ACCEPTED) {
         return table_length + add_events(&course, input + table_length);
     }
     return length + add_random_bytes(&random, input + length, (size_t)between(&random, 0, 3 * EVENT_BYTES));

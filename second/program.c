@@ -5,6 +5,7 @@
 #include "program.h"
 
 #include "corridor.h"
+#include "input.h"
 
 #include <inttypes.h>
 
@@ -41,8 +42,7 @@ static void take_events(FILE *input, FILE *output, Session *session)
     size_t length;
     while ((length = fread(chunk, 1, sizeof chunk, input)) > 0) {
         for (size_t start = 0; start < length; start += EVENT_BYTES) {
-            size_t left = length - start;
-            corridor_event(session, chunk + start, left < EVENT_BYTES ? left : EVENT_BYTES, &answer);
+            corridor_event(session, chunk + start, input_event_length(length - start), &answer);
             print_event_answer(output, &answer);
         }
     }

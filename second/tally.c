@@ -1,0 +1,153 @@
+/*
+ * tally.c: runs the engine on an input and counts.
+ */
+#include "tally.h"
+
+#include "draft.h"
+
+#include <inttypes.h>
+#include <stdio.h>
+
+const char *const TALLY_NAMES[TALLY_COUNTS] = {
+    NULL, "refusal 1", "refusal 2", "refusal 3", "refusal 4", "refusal 5", "refusal 6", "refusal 7", "refusal 8",
+    "refusal 9", "refusal 10", "refusal 11", "refusal 12", "refusal 13", "refusal 14",
+    [TALLY_OPENED] = "opened",
+    [TALLY_NO_SHIFTS_ALLOWED] = "opened with no shifts allowed",
+    [TALLY_EVENTS] = "events",
+    [TALLY_SHIFTS_UP] = "shifts up",
+    [TALLY_SHIFTS_DOWN] = "shifts down",
+    [TALLY_TWO_SHIFTS_IN_A_SECOND] = "up and down in one second",
+    [TALLY_SEVERAL_LINES_DUE] = "several lines of a side due at once",
+    [TALLY_SEVERAL_SHIFTS] = "events with several shifts",
+    [TALLY_MOST_SHIFTS_AT_ONCE] = "events with sixteen shifts",
+    [TALLY_SHIFT_AT_EVENT] = "shifts at the event's own second",
+    [TALLY_TICK_BEFORE_DUE] = "ticks a second before one is due",
+    [TALLY_TICK_AT_DUE] = "ticks at the second one is due",
+    [TALLY_TICK_AFTER_DUE] = "ticks a second after one is due",
+    [TALLY_FROZEN_AT_OPENING] = "lines frozen at opening",
+    [TALLY_FROZEN_IN_SHIFT] = "lines frozen in a shift",
+    [TALLY_DUE_AT_SESSION_END] = "holds due at the reached session end",
+    [TALLY_ALL_SHIFTS_USED] = "all shifts used",
+    [TALLY_LOWER_BELOW_ZERO] = "lines ending below zero",
+    [TALLY_ZERO_INSIDE] = "lines ending around zero",
+    [TALLY_CUT_EVENT] = "last events cut short",
+};
+
+static uint64_t frozen_lines(const Session *session)
+{
+    uint64_t count = 0;
+    for (uint32_t i = 0; i < session->line_count; i++) {
+        count += session->lines[i].lower_frozen;
+    }
+    return count;
+}
+
+/* The first second at which a hold is due, and how many lines of each side are due then. */
+typedef struct {
+    Seconds second;
+    uint32_t lines[SIDES];
+} FirstDue;
+
+static FirstDue first_due(const Session *session)
+{
+    FirstDue first = {NEVER, {0}};
+    for (int side = SIDE_UP; side <= SIDE_DOWN; side++) {
+        for (uint32_t i = 0; i < session->line_count; i++) {
+            Seconds due = session->due[side][i];
+            if (due.seconds < first.second.seconds) {
+                first = (FirstDue){due, {0}};
+            }
+            first.lines[side] += due.seconds != NEVER.seconds && due.seconds == first.second.seconds;
+        }
+    }
+    return first;
+}
+
+static void count_shifts(Tally *one, const EventAnswer *answer, FirstDue due, Seconds now)
+{
+    for (uint32_t i = 0; i < answer->shift_count; i++) {
+        const Shift *shift = &answer->shifts[i];
+        one->times[shift->side == SIDE_UP ? TALLY_SHIFTS_UP : TALLY_SHIFTS_DOWN]++;
+        one->times[TALLY_TWO_SHIFTS_IN_A_SECOND] += i > 0 && shift[-1].second.seconds == shift->second.seconds;
+        one->times[TALLY_SHIFT_AT_EVENT] += shift->second.seconds == now.seconds;
+    }
+    one->times[TALLY_SEVERAL_LINES_DUE] += answer->shift_count > 0 && due.lines[answer->shifts[0].side] > 1;
+    one->times[TALLY_SEVERAL_SHIFTS] += answer->shift_count > 1;
+    one->times[TALLY_MOST_SHIFTS_AT_ONCE] += answer->shift_count == MOST_SHIFTS;
+}
+
+static void count_tick(Tally *one, FirstDue due, Seconds now)
+{
+    one->times[TALLY_TICK_BEFORE_DUE] += now.seconds + 1 == due.second.seconds;
+    one->times[TALLY_TICK_AT_DUE] += now.seconds == due.second.seconds;
+    one->times[TALLY_TICK_AFTER_DUE] += now.seconds == due.second.seconds + 1;
+}
+
+static void count_event(Tally *one, Session *session, const uint8_t *bytes, size_t length)
+{
+    EventAnswer answer;
+    FirstDue due = first_due(session);
+    corridor_event(session, bytes, length, &answer);
+    one->times[TALLY_EVENTS]++;
+    one->times[TALLY_CUT_EVENT] += length < EVENT_BYTES;
+    if (answer.kind == REFUSED) {
+        one->times[answer.reason]++;
+        return;
+    }
+    count_shifts(one, &answer, due, session->clock);
+    if (draft_read_event(bytes).fields[EVENT_FLAGS] == FLAG_TICK) {
+        count_tick(one, due, session->clock);
+    }
+}
+
+static void count_end(Tally *one, const Session *session)
+{
+    uint32_t end = session->session_end.seconds;
+    for (uint32_t i = 0; i < session->line_count; i++) {
+        Bounds limits = session->lines[i].limits;
+        for (int side = SIDE_UP; side <= SIDE_DOWN; side++) {
+            bool due_at_end = session->due[side][i].seconds == end;
+            one->times[TALLY_DUE_AT_SESSION_END] += due_at_end && session->clock.seconds == end;
+        }
+        one->times[TALLY_LOWER_BELOW_ZERO] += limits.lower.steps < 0;
+        one->times[TALLY_ZERO_INSIDE] += limits.lower.steps < 0 && limits.upper.steps > 0;
+    }
+    one->times[TALLY_ALL_SHIFTS_USED] += session->shifts_made > 0 && session->shifts_made == session->most_shifts;
+}
+
+Tally tally_input(const Input *input)
+{
+    Tally one = {{0}};
+    Session session;
+    TableAnswer answer = corridor_open(input->table, input->table_length, &session);
+    if (answer.kind == REFUSED) {
+        one.times[answer.reason]++;
+        return one;
+    }
+    uint64_t frozen = frozen_lines(&session);
+    one.times[TALLY_OPENED]++;
+    one.times[TALLY_NO_SHIFTS_ALLOWED] += session.most_shifts == 0;
+    one.times[TALLY_FROZEN_AT_OPENING] += frozen;
+    for (size_t start = 0; start < input->events_length; start += EVENT_BYTES) {
+        count_event(&one, &session, input->events + start, input_event_length(input->events_length - start));
+    }
+    one.times[TALLY_FROZEN_IN_SHIFT] += frozen_lines(&session) - frozen;
+    count_end(&one, &session);
+    return one;
+}
+
+void tally_add(TallyTotal *total, const Tally *one)
+{
+    for (int i = TALLY_FIRST; i < TALLY_COUNTS; i++) {
+        total->inputs[i] += one->times[i] > 0;
+        total->times[i] += one->times[i];
+    }
+}
+
+void tally_print(const TallyTotal *total)
+{
+    printf("%-36s %10s %10s\n", "", "inputs", "in all");
+    for (int i = TALLY_FIRST; i < TALLY_COUNTS; i++) {
+        printf("%-36s %10" PRIu64 " %10" PRIu64 "\n", TALLY_NAMES[i], total->inputs[i], total->times[i]);
+    }
+}

@@ -1,0 +1,51 @@
+/*
+ * tally.h: counts what inputs bring about in the engine, so that one can see whether a comparison on them
+ * means anything.
+ */
+#ifndef TALLY_H
+#define TALLY_H
+
+#include "input.h"
+
+/* What is counted. The refusals stand first, at their own numbers. */
+typedef enum {
+    TALLY_FIRST = REFUSED_LENGTH_OR_OFFSETS,
+    TALLY_OPENED = REFUSED_CROSSED + 1,
+    TALLY_NO_SHIFTS_ALLOWED,
+    TALLY_EVENTS,
+    TALLY_SHIFTS_UP,
+    TALLY_SHIFTS_DOWN,
+    TALLY_TWO_SHIFTS_IN_A_SECOND,
+    TALLY_SEVERAL_LINES_DUE,
+    TALLY_SEVERAL_SHIFTS,
+    TALLY_MOST_SHIFTS_AT_ONCE,
+    TALLY_SHIFT_AT_EVENT,
+    TALLY_TICK_BEFORE_DUE,
+    TALLY_TICK_AT_DUE,
+    TALLY_TICK_AFTER_DUE,
+    TALLY_FROZEN_AT_OPENING,
+    TALLY_FROZEN_IN_SHIFT,
+    TALLY_DUE_AT_SESSION_END,
+    TALLY_ALL_SHIFTS_USED,
+    TALLY_LOWER_BELOW_ZERO,
+    TALLY_ZERO_INSIDE,
+    TALLY_CUT_EVENT,
+    TALLY_COUNTS
+} TallyCount;
+
+extern const char *const TALLY_NAMES[TALLY_COUNTS];
+
+/* How often one input brought each thing about. */
+typedef struct { uint64_t times[TALLY_COUNTS]; } Tally;
+
+/* Over many inputs: how many brought it about, and how often in all. */
+typedef struct {
+    uint64_t inputs[TALLY_COUNTS];
+    uint64_t times[TALLY_COUNTS];
+} TallyTotal;
+
+Tally tally_input(const Input *input);
+void tally_add(TallyTotal *total, const Tally *one);
+void tally_print(const TallyTotal *total);
+
+#endif
