@@ -4,7 +4,8 @@
  */
 #include "corridor.h"
 #include "draft.h"
-#include "program.h"
+#include "rows.h"
+#include "text.h"
 
 #include <inttypes.h>
 #include <stdio.h>
@@ -192,19 +193,7 @@ static void check_event_refused(const char *name, Session *session, EventDraft e
 static Text program_text(const uint8_t *bytes, size_t length)
 {
     Text text = {""};
-    FILE *input = tmpfile();
-    FILE *output = tmpfile();
-    if (input == NULL || output == NULL || fwrite(bytes, 1, length, input) != length) {
-        printf("failed: no temporary files\n");
-        exit(EXIT_FAILURE);
-    }
-    rewind(input);
-    check_number("program ends well", program_run(input, output), true);
-    rewind(output);
-    size_t printed = fread(text.text, 1, TEXT_BYTES - 1, output);
-    text.text[printed] = '\0';
-    fclose(input);
-    fclose(output);
+    check_number("program ends well", text_of_program(bytes, length, text.text, TEXT_BYTES), true);
     return text;
 }
 
@@ -684,6 +673,34 @@ static void figures_of_long_input(void)
     check_text("long input", program_text(bytes, length + 1).text, "70 U 7\nR 12\n7 950 1100 900 1150\n");
 }
 
+/* Runs the input with exactly the room it needs. */
+static void check_rows(const char *name, const uint8_t *bytes, size_t length, const int64_t *expected, size_t count)
+{
+    int64_t rows[ROWS_ROOM(INPUT_BYTES)];
+    Input input = input_of(bytes, length);
+    size_t room = ROWS_ROOM(input.events_length);
+    check_number(name, (int64_t)rows_run(&input, rows, room), (int64_t)count);
+    check_number(name, memcmp(rows, expected, count * sizeof rows[0]), 0);
+    memset(rows, 0x55, sizeof rows);
+    check_number(name, (int64_t)rows_run(&input, rows, room - 1), (int64_t)room);
+    check_number(name, rows[0], INT64_C(0x5555555555555555));
+}
+
+static void figures_of_rows(void)
+{
+    TableDraft draft = sample();
+    uint8_t bytes[INPUT_BYTES] = {0};
+    size_t length = draft_write_table(&draft, bytes);
+    EventDraft events[] = {draft_bid(10, 7, 1046), draft_tick(70), draft_ask(100, 7, 900), draft_tick(160)};
+    for (size_t i = 0; i < sizeof events / sizeof events[0]; i++) {
+        length += draft_write_event(&events[i], bytes + length);
+    }
+    const int64_t rows[] = {1, 70, 0, 7, 0, 0, 1, 160, 1, 7, 0, 0, 2, 12, 0, 0, 0, 0, 4, 7, 900, 1100, 850, 1150};
+    check_rows("rows of every kind but one", bytes, length + 1, rows, sizeof rows / sizeof rows[0]);
+    bytes[sizeof SAMPLE_TABLE - 4] = 4;
+    check_rows("row of a refused table", bytes, length, (const int64_t[]){3, 5, 1, 0, 0, 0}, ROW_NUMBERS);
+}
+
 static void readings_of_questions(void)
 {
     TableDraft draft = sample();
@@ -855,6 +872,7 @@ int main(void)
     readings_of_order();
     readings_of_program();
     figures_of_long_input();
+    figures_of_rows();
     readings_of_questions();
     readings_of_widths();
     readings_of_zero_width();

@@ -1,0 +1,58 @@
+/*
+ * rows.c: runs an input through the engine and writes the answers as rows.
+ */
+#include "rows.h"
+
+/* Gives where the next row goes. */
+static int64_t *put_row(int64_t *out, enum RowKind kind, int64_t a, int64_t b, int64_t c, int64_t d, int64_t e)
+{
+    out[0] = kind;
+    out[1] = a;
+    out[2] = b;
+    out[3] = c;
+    out[4] = d;
+    out[5] = e;
+    return out + ROW_NUMBERS;
+}
+
+static int64_t *put_event_answer(int64_t *out, const EventAnswer *answer)
+{
+    if (answer->kind == REFUSED) {
+        return put_row(out, ROW_REFUSED_EVENT, answer->reason, 0, 0, 0, 0);
+    }
+    for (uint32_t i = 0; i < answer->shift_count; i++) {
+        const Shift *shift = &answer->shifts[i];
+        out = put_row(out, ROW_SHIFT, shift->second.seconds, shift->side, shift->id, 0, 0);
+    }
+    return out;
+}
+
+static int64_t *put_closing_rows(int64_t *out, const Session *session)
+{
+    for (uint32_t i = 0; i < session->line_count; i++) {
+        const Line *line = &session->lines[i];
+        out = put_row(out, ROW_CLOSING, line->id, line->limits.lower.steps, line->limits.upper.steps,
+                      line->interest.lower.steps, line->interest.upper.steps);
+    }
+    return out;
+}
+
+size_t rows_run(const Input *input, int64_t *out, size_t out_length)
+{
+    size_t room = ROWS_ROOM(input->events_length);
+    if (out_length < room) {
+        return room;
+    }
+    Session session;
+    TableAnswer opened = corridor_open(input->table, input->table_length, &session);
+    if (opened.kind == REFUSED) {
+        return (size_t)(put_row(out, ROW_REFUSED_TABLE, opened.reason, opened.line, 0, 0, 0) - out);
+    }
+    int64_t *next = out;
+    for (size_t start = 0; start < input->events_length; start += EVENT_BYTES) {
+        EventAnswer answer;
+        corridor_event(&session, input->events + start, input_event_length(input->events_length - start), &answer);
+        next = put_event_answer(next, &answer);
+    }
+    return (size_t)(put_closing_rows(next, &session) - out);
+}
