@@ -30,6 +30,14 @@ static int64_t size_of(int64_t value)
     return value < 0 ? -value : value;
 }
 
+/* A field around the ends of what 32 bits hold, signed or not, or anything. */
+static uint32_t wild(Random *random)
+{
+    static const uint32_t ends[] = {0, INT32_MAX, UINT32_MAX};
+    uint32_t end = ends[between(random, 0, 2)];
+    return chance(random, 50) ? end + count_between(random, 0, 2) : (uint32_t)draw(random);
+}
+
 /* A field on the wrong side of its range, mostly by one. Now and then it happens to be in range. */
 static uint32_t outside(Random *random, int64_t least, int64_t most)
 {
@@ -38,7 +46,7 @@ static uint32_t outside(Random *random, int64_t least, int64_t most)
     case 1: return (uint32_t)(least - 1);
     case 2:
     case 3: return (uint32_t)(most + 1);
-    default: return (uint32_t)draw(random);
+    default: return wild(random);
     }
 }
 
@@ -242,7 +250,7 @@ static void damage_offsets(Random *random, TableDraft *draft)
     switch (between(random, 0, 3)) {
     case 0: draft->header[field] += 1; break;
     case 1: draft->header[field] -= 4; break;
-    case 2: draft->header[field] = (uint32_t)draw(random); break;
+    case 2: draft->header[field] = wild(random); break;
     default:
         draft->header[HEADER_KEYS_OFFSET] = HEADER_BYTES + draft->contract_count * CONTRACT_BYTES;
         draft->header[HEADER_CONTRACTS_OFFSET] = HEADER_BYTES;
@@ -263,7 +271,13 @@ static void damage_header(Random *random, TableDraft *draft)
         {HEADER_SHIFT_SHARE, 1, 1000000},
     };
     int64_t which = between(random, 0, 6);
-    draft->header[ranges[which].field] = outside(random, ranges[which].least, ranges[which].most);
+    uint32_t *field = &draft->header[ranges[which].field];
+    if (which < 2 && chance(random, 30)) {
+        /* 2^29 keys or contracts more: in 32 bits the length of the table comes out the same. */
+        *field += UINT32_C(0x20000000) * count_between(random, 1, 7);
+    } else {
+        *field = outside(random, ranges[which].least, ranges[which].most);
+    }
 }
 
 static void damage_key(Random *random, TableDraft *draft)
@@ -487,11 +501,12 @@ static void spoil_form(Random *random, EventDraft *event)
     static const uint32_t bad_prices[] = {2000000001, (uint32_t)-2000000001, INT32_MAX, UINT32_C(0x80000000)};
     int64_t field = between(random, EVENT_ID, EVENT_ASK);
     uint32_t bad_price = bad_prices[between(random, 0, 3)];
-    switch (between(random, 0, 4)) {
+    switch (between(random, 0, 5)) {
     case 0: event->fields[EVENT_FLAGS] = count_between(random, 5, 9); break;
     case 1: event->fields[EVENT_FLAGS] |= UINT32_C(4) << between(random, 0, 29); break;
     case 2: event->fields[EVENT_FLAGS] ^= UINT32_C(1) << between(random, 0, 2); break;
     case 3: event->fields[field] = (uint32_t)between(random, -1, 1); break;
+    case 4: event->fields[field] = wild(random); break;
     default: event->fields[field] = bad_price; break;
     }
 }
@@ -588,7 +603,7 @@ static size_t add_events(Course *course, uint8_t *bytes)
 /* Damages the bytes of a written table: some fields replaced, all random, or other counts than written. */
 static size_t damage_bytes(Random *random, TableDraft *draft, uint8_t *bytes)
 {
-    if (chance(random, 15)) {
+    if (chance(random, 25)) {
         return add_random_bytes(random, bytes, (size_t)between(random, 0, 200));
     }
     if (chance(random, 20)) {
@@ -603,21 +618,33 @@ static size_t damage_bytes(Random *random, TableDraft *draft, uint8_t *bytes)
     return length;
 }
 
-/* Writes the table, damaged in about one input out of six. */
+/* Writes the table, damaged in about one input out of five. */
 static size_t add_table(Random *random, uint8_t *bytes)
 {
     TableDraft draft = make_table(random);
     int64_t kind = between(random, 0, 99);
-    if (kind < 3) {
+    if (kind < 5) {
         return damage_bytes(random, &draft, bytes);
     }
-    if (kind < 16) {
+    if (kind < 20) {
         damage(random, &draft, (Refusal)between(random, REFUSED_LENGTH_OR_OFFSETS, REFUSED_LIMITS));
     }
-    if (kind < 18 && chance(random, 20)) {
+    /* A second damage at times, so that the order of the refusals shows. */
+    if (kind < 20 && chance(random, 20)) {
         damage(random, &draft, (Refusal)between(random, REFUSED_LENGTH_OR_OFFSETS, REFUSED_LIMITS));
     }
     return draft_write_table(&draft, bytes);
+}
+
+/* Lets the events of an opened table follow; a table that does not open is followed by any bytes. */
+static size_t add_rest(Random *random, uint8_t *input, size_t length)
+{
+    Course course = {.random = random};
+    size_t table_length = input_of(input, length).table_length;
+    if (corridor_open(input, table_length, &course.session).kind == ACCEPTED) {
+        return table_length + add_events(&course, input + table_length);
+    }
+    return length + add_random_bytes(random, input + length, (size_t)between(random, 0, 3 * EVENT_BYTES));
 }
 
 size_t generate_input(uint64_t seed, uint64_t number, uint8_t input[LONGEST_INPUT])
@@ -625,14 +652,11 @@ size_t generate_input(uint64_t seed, uint64_t number, uint8_t input[LONGEST_INPU
     Random random = {seed};
     random.state = draw(&random) ^ number;
     random.state = draw(&random);
-    size_t length = add_table(&random, input);
-    if (chance(&random, 1)) {
-        return (size_t)between(&random, 0, (int64_t)length - (length > 0));
+    size_t table_length = add_table(&random, input);
+    size_t length = add_rest(&random, input, table_length);
+    /* Some inputs are cut, half of them in the table, where few bytes of a long input lie. */
+    if (chance(&random, 3)) {
+        return (size_t)between(&random, 0, (int64_t)(chance(&random, 50) ? table_length : length));
     }
-    Course course = {.random = &random};
-    size_t table_length = input_of(input, length).table_length;
-    if (corridor_open(input, table_length, &course.session).kind == ACCEPTED) {
-        return table_length + add_events(&course, input + table_length);
-    }
-    return length + add_random_bytes(&random, input + length, (size_t)between(&random, 0, 3 * EVENT_BYTES));
+    return length;
 }
