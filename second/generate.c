@@ -211,6 +211,32 @@ static uint32_t make_contract_count(Random *random)
     return chance(random, 90) ? count_between(random, 6, MOST_LINES) : MOST_LINES;
 }
 
+static void set_rates_of_keys(TableDraft *draft, uint32_t rate)
+{
+    for (uint32_t i = 0; i < draft->key_count; i++) {
+        draft->keys[i][KEY_RATE] = rate;
+    }
+}
+
+/* Takes the greatest numbers of all: price, half-width, growth, shift and pressure, so that shifts of one
+   side lead the bounds beyond 32 bits. */
+static void make_greatest(TableDraft *draft)
+{
+    draft->header[HEADER_MOST_SHIFTS] = MOST_SHIFTS;
+    draft->header[HEADER_NEAR_SHARE] = (uint32_t)MOST_NEAR_SHARE;
+    draft->header[HEADER_SHIFT_SHARE] = (uint32_t)MILLION;
+    set_rates_of_keys(draft, 500000);
+    for (uint32_t i = 0; i < draft->contract_count; i++) {
+        uint32_t *contract = draft->contracts[i];
+        bool negative = draft_price(contract[CONTRACT_SETTLEMENT]).steps < 0;
+        contract[CONTRACT_SETTLEMENT] = (uint32_t)(negative ? -MOST_TABLE_PRICE : MOST_TABLE_PRICE);
+        contract[CONTRACT_LEAST_PRICE] = (uint32_t)MOST_TABLE_PRICE;
+        contract[CONTRACT_RATE_1] = contract[CONTRACT_RATE_2] = contract[CONTRACT_RATE_3] = (uint32_t)MILLION;
+        contract[CONTRACT_DAYS_LEFT] = 365;
+        mend_contract(draft, i);
+    }
+}
+
 static TableDraft make_table(Random *random)
 {
     TableDraft draft = {0};
@@ -227,6 +253,9 @@ static TableDraft make_table(Random *random)
         make_width_and_days(random, &draft, draft.contracts[i]);
         mend_contract(&draft, i);
     }
+    if (chance(random, 5)) {
+        make_greatest(&draft);
+    }
     return draft;
 }
 
@@ -235,13 +264,6 @@ static TableDraft make_table(Random *random)
 static uint32_t *any_contract(Random *random, TableDraft *draft)
 {
     return draft->contracts[between(random, 0, draft->contract_count - 1)];
-}
-
-static void set_rates_of_keys(TableDraft *draft, uint32_t rate)
-{
-    for (uint32_t i = 0; i < draft->key_count; i++) {
-        draft->keys[i][KEY_RATE] = rate;
-    }
 }
 
 static void damage_offsets(Random *random, TableDraft *draft)
@@ -321,13 +343,14 @@ static void damage_id(Random *random, TableDraft *draft)
     draft->contracts[last == 0 ? 0 : count_between(random, 1, last)][CONTRACT_ID] = last == 0 ? 0 : id;
 }
 
-/* The product of rate and days meets the cap at 182,500,000: it is set there or a little over. */
+/* The product of rate and days meets the cap at 182,500,000: it is set there or a little over. The first pair
+   makes the least product over it that there is. */
 static void damage_exponent(Random *random, TableDraft *draft)
 {
     static const struct { uint32_t rate; uint32_t days; } caps[] = {
-        {50000, 3650}, {500000, 365}, {250000, 730}, {1000000, 182},
+        {106043, 1721}, {50000, 3650}, {500000, 365}, {250000, 730}, {1000000, 182},
     };
-    int64_t which = between(random, 0, 3);
+    int64_t which = between(random, 0, 4);
     uint32_t *contract = any_contract(random, draft);
     set_rates_of_keys(draft, caps[which].rate);
     contract[CONTRACT_DAYS_LEFT] = (uint32_t)clamp(caps[which].days + between(random, 0, 2), 0, MOST_DAYS);
@@ -389,10 +412,12 @@ static void damage(Random *random, TableDraft *draft, Refusal aim)
 
 /* ---- Good events ---- */
 
-/* How one input goes on: its session, and how often its quotes keep on pressing and its events are spoiled. */
+/* How one input goes on: its session, how often its quotes are about the upper limit and keep on pressing, and
+   how often its events are spoiled. */
 typedef struct {
     Random *random;
     Session session;
+    int64_t upper_percent;
     int64_t steady_percent;
     int64_t spoiled_percent;
 } Course;
@@ -471,7 +496,7 @@ static EventDraft make_quote(Course *course, uint32_t time)
     bool held_up = session->due[SIDE_UP][index].seconds != NEVER.seconds;
     bool held_down = session->due[SIDE_DOWN][index].seconds != NEVER.seconds;
     bool steady = (held_up || held_down) && chance(random, course->steady_percent);
-    Side side = chance(random, 50) ? SIDE_UP : SIDE_DOWN;
+    Side side = chance(random, course->upper_percent) ? SIDE_UP : SIDE_DOWN;
     if (steady) {
         side = held_up ? SIDE_UP : SIDE_DOWN;
     } else if (chance(random, 7)) {
@@ -585,9 +610,11 @@ static int64_t make_event_count(Random *random)
 
 static size_t add_events(Course *course, uint8_t *bytes)
 {
+    static const int64_t upperness[] = {50, 50, 50, 0, 100};
     static const int64_t steadiness[] = {50, 80, 95, 100};
     static const int64_t spoiling[] = {0, 5, 5, 15, 50};
     Random *random = course->random;
+    course->upper_percent = upperness[between(random, 0, 4)];
     course->steady_percent = steadiness[between(random, 0, 3)];
     course->spoiled_percent = spoiling[between(random, 0, 4)];
     size_t length = 0;

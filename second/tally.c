@@ -30,6 +30,7 @@ const char *const TALLY_NAMES[TALLY_COUNTS] = {
     [TALLY_ALL_SHIFTS_USED] = "all shifts used",
     [TALLY_LOWER_BELOW_ZERO] = "lines ending below zero",
     [TALLY_ZERO_INSIDE] = "lines ending around zero",
+    [TALLY_BEYOND_32_BITS] = "lines ending beyond 32 bits",
     [TALLY_CUT_EVENT] = "last events cut short",
 };
 
@@ -105,12 +106,14 @@ static void count_end(Tally *one, const Session *session)
     uint32_t end = session->session_end.seconds;
     for (uint32_t i = 0; i < session->line_count; i++) {
         Bounds limits = session->lines[i].limits;
+        Bounds interest = session->lines[i].interest;
         for (int side = SIDE_UP; side <= SIDE_DOWN; side++) {
             bool due_at_end = session->due[side][i].seconds == end;
             one->times[TALLY_DUE_AT_SESSION_END] += due_at_end && session->clock.seconds == end;
         }
         one->times[TALLY_LOWER_BELOW_ZERO] += limits.lower.steps < 0;
         one->times[TALLY_ZERO_INSIDE] += limits.lower.steps < 0 && limits.upper.steps > 0;
+        one->times[TALLY_BEYOND_32_BITS] += interest.lower.steps < INT32_MIN || interest.upper.steps > INT32_MAX;
     }
     one->times[TALLY_ALL_SHIFTS_USED] += session->shifts_made > 0 && session->shifts_made == session->most_shifts;
 }

@@ -1,0 +1,345 @@
+/*
+ * compare.c: the program "compare". It gives the same inputs to this engine and to the proved one, which is
+ * linked as a library, and holds their answers together.
+ *
+ *   compare gate FILE..   generated inputs of a fixed seed, and then the files. Fails at any difference, and
+ *                         where too few inputs brought something about.
+ *   compare long SEED     generated inputs without end. Stops at the first difference and keeps its input.
+ */
+#include "generate.h"
+#include "random.h"
+#include "rows.h"
+#include "tally.h"
+#include "text.h"
+
+#include "sundewcup.h"
+
+#include <inttypes.h>
+#include <stdio.h>
+#include <stdlib.h>
+#include <string.h>
+
+enum {
+    GATE_INPUTS = 30000,
+    GATE_EVENTS = 2000000,
+    GATE_INPUTS_FOR_EACH_COUNT = 100,
+    PROGRESS_INPUTS = 20000,
+    MOST_NUMBERS = ROWS_ROOM(LONGEST_INPUT),
+    GUARD_NUMBERS = 64,
+    /* Five numbers of at most twenty characters, the spaces and the line's end. */
+    LONGEST_ROW_TEXT = 105,
+    TEXT_BYTES = MOST_NUMBERS / ROW_NUMBERS * LONGEST_ROW_TEXT + 2
+};
+
+static const uint64_t GATE_SEED = 1;
+
+typedef enum {
+    COMPARED_ROWS,
+    COMPARED_TEXT,
+    COMPARED_PAST_ROWS,
+    COMPARED_SHORT_ROOM,
+    COMPARED_OTHER_PARTS,
+    COMPARED_INPUT,
+    COMPARISONS
+} Comparison;
+
+static const char *const NAMES[COMPARISONS] = {
+    [COMPARED_ROWS] = "rows",
+    [COMPARED_TEXT] = "text of the rows and of the program",
+    [COMPARED_PAST_ROWS] = "numbers past the rows untouched",
+    [COMPARED_SHORT_ROOM] = "too little room said, nothing written",
+    [COMPARED_OTHER_PARTS] = "rows where the table ends elsewhere",
+    [COMPARED_INPUT] = "input untouched",
+};
+
+/* The numbers that an engine wrote. The guards lie beyond the longest room. */
+typedef struct {
+    size_t count;
+    int64_t numbers[MOST_NUMBERS + GUARD_NUMBERS];
+} Answer;
+
+/* One input in its parts, and how both engines answered it. */
+typedef struct {
+    Input input;
+    Answer second;
+    Answer library;
+} Trial;
+
+/* All that was tried on one input: in the program's parts, and with a table that ends elsewhere. */
+typedef struct {
+    Trial program_parts;
+    Trial other_parts;
+    bool differs[COMPARISONS];
+} Compared;
+
+/* All that was seen over many inputs. */
+typedef struct {
+    uint64_t inputs;
+    uint64_t differ[COMPARISONS];
+    TallyTotal total;
+} Result;
+
+/* ---- Running both ---- */
+
+/* No row holds such a number, and each place has its own. */
+static int64_t mark(size_t place)
+{
+    return INT64_MIN + (int64_t)place;
+}
+
+static void run_library(const Input *input, Answer *answer, size_t room)
+{
+    for (size_t i = 0; i < MOST_NUMBERS + GUARD_NUMBERS; i++) {
+        answer->numbers[i] = mark(i);
+    }
+    answer->count = sundewcup_run(input->table, input->table_length, input->events, input->events_length,
+                                  answer->numbers, room);
+}
+
+static void run_both(Trial *trial, Input input, size_t room)
+{
+    trial->input = input;
+    trial->second.count = rows_run(&input, trial->second.numbers, room);
+    run_library(&input, &trial->library, room);
+}
+
+/* ---- Comparing ---- */
+
+static bool same_rows(const Trial *trial)
+{
+    size_t count = trial->second.count;
+    return count == trial->library.count
+        && memcmp(trial->second.numbers, trial->library.numbers, count * sizeof(int64_t)) == 0;
+}
+
+static bool same_text(const Trial *trial, const uint8_t *bytes, size_t length)
+{
+    static char of_rows[TEXT_BYTES];
+    static char of_program[TEXT_BYTES];
+    return trial->library.count <= MOST_NUMBERS
+        && text_of_rows(trial->library.numbers, trial->library.count, of_rows, TEXT_BYTES)
+        && text_of_program(bytes, length, of_program, TEXT_BYTES) && strcmp(of_rows, of_program) == 0;
+}
+
+static bool untouched_from(const Answer *answer, size_t first)
+{
+    for (size_t i = first; i < MOST_NUMBERS + GUARD_NUMBERS; i++) {
+        if (answer->numbers[i] != mark(i)) {
+            return false;
+        }
+    }
+    return true;
+}
+
+static bool refuses_short_room(const Input *input)
+{
+    static Answer answer;
+    size_t room = ROWS_ROOM(input->events_length);
+    const size_t short_rooms[] = {0, room - 1};
+    for (size_t i = 0; i < sizeof short_rooms / sizeof short_rooms[0]; i++) {
+        run_library(input, &answer, short_rooms[i]);
+        if (answer.count != room || !untouched_from(&answer, 0)) {
+            return false;
+        }
+    }
+    return true;
+}
+
+/* Lets the table end elsewhere: a byte sooner or later, at the input's end, or anywhere. */
+static Input other_parts(const uint8_t *bytes, size_t length, uint64_t number)
+{
+    Random random = {number};
+    size_t end = input_of(bytes, length).table_length;
+    switch (between(&random, 0, 3)) {
+    case 0: end -= end > 0; break;
+    case 1: end += end < length; break;
+    case 2: end = length; break;
+    default: end = (size_t)between(&random, 0, (int64_t)length); break;
+    }
+    return (Input){bytes, end, bytes + end, length - end};
+}
+
+/* Tries all on one input; says whether there was no difference. */
+static bool compare(Compared *compared, const uint8_t *bytes, size_t length, uint64_t number)
+{
+    static uint8_t before[LONGEST_INPUT];
+    Trial *trial = &compared->program_parts;
+    Trial *other = &compared->other_parts;
+    bool *differs = compared->differs;
+    Input input = input_of(bytes, length);
+    memcpy(before, bytes, length);
+    /* Every other input is lent more room than it needs. */
+    run_both(trial, input, number % 2 == 0 ? ROWS_ROOM(input.events_length) : MOST_NUMBERS);
+    run_both(other, other_parts(bytes, length, number), MOST_NUMBERS);
+    differs[COMPARED_ROWS] = !same_rows(trial);
+    differs[COMPARED_TEXT] = !same_text(trial, bytes, length);
+    differs[COMPARED_PAST_ROWS] = !untouched_from(&trial->library, trial->library.count);
+    differs[COMPARED_SHORT_ROOM] = !refuses_short_room(&input);
+    differs[COMPARED_OTHER_PARTS] = !same_rows(other) || !untouched_from(&other->library, other->library.count);
+    differs[COMPARED_INPUT] = memcmp(before, bytes, length) != 0;
+    bool alike = true;
+    for (int i = 0; i < COMPARISONS; i++) {
+        alike = alike && !differs[i];
+    }
+    return alike;
+}
+
+/* ---- Telling a difference ---- */
+
+static void print_row(const char *whose, const Answer *answer, size_t start)
+{
+    printf("    %s:", whose);
+    for (size_t i = start; i < start + ROW_NUMBERS && i < answer->count && i < MOST_NUMBERS; i++) {
+        printf(" %" PRId64, answer->numbers[i]);
+    }
+    printf(" (%zu numbers in all)\n", answer->count);
+}
+
+static void tell_rows(const Trial *trial)
+{
+    size_t place = 0;
+    while (place < trial->second.count && trial->second.numbers[place] == trial->library.numbers[place]) {
+        place++;
+    }
+    printf("    table of %zu bytes, events of %zu bytes: row %zu, number %zu\n", trial->input.table_length,
+           trial->input.events_length, place / ROW_NUMBERS + 1, place % ROW_NUMBERS + 1);
+    print_row("second engine", &trial->second, place - place % ROW_NUMBERS);
+    print_row("library", &trial->library, place - place % ROW_NUMBERS);
+}
+
+static void tell(const Compared *compared)
+{
+    for (int i = 0; i < COMPARISONS; i++) {
+        if (compared->differs[i]) {
+            printf("  different: %s\n", NAMES[i]);
+        }
+    }
+    if (compared->differs[COMPARED_ROWS]) {
+        tell_rows(&compared->program_parts);
+    }
+    if (compared->differs[COMPARED_OTHER_PARTS]) {
+        tell_rows(&compared->other_parts);
+    }
+}
+
+/* ---- Many inputs ---- */
+
+/* Takes in one more input; says whether there was no difference. Only the first difference is told. */
+static bool take(Result *result, const uint8_t *bytes, size_t length, const char *source, uint64_t number)
+{
+    static Compared compared;
+    static bool told;
+    Input input = input_of(bytes, length);
+    Tally one = tally_input(&input);
+    bool alike = compare(&compared, bytes, length, number);
+    result->inputs++;
+    tally_add(&result->total, &one);
+    for (int i = 0; i < COMPARISONS; i++) {
+        result->differ[i] += compared.differs[i];
+    }
+    if (!alike && !told) {
+        told = true;
+        printf("difference at %s, number %" PRIu64 "\n", source, number);
+        tell(&compared);
+    }
+    return alike;
+}
+
+static void take_file(Result *result, const char *name, uint64_t number)
+{
+    static uint8_t bytes[LONGEST_INPUT + 1];
+    FILE *file = fopen(name, "rb");
+    size_t length = file == NULL ? 0 : fread(bytes, 1, sizeof bytes, file);
+    if (file == NULL || ferror(file) || length > LONGEST_INPUT) {
+        printf("%s: not readable or too long\n", name);
+        exit(EXIT_FAILURE);
+    }
+    fclose(file);
+    take(result, bytes, length, name, number);
+}
+
+/* ---- The two forms ---- */
+
+/* Counts a check; one that fails is printed. */
+static void check(uint64_t seen, bool good, const char *name, int *passed, int *failed)
+{
+    *(good ? passed : failed) += 1;
+    if (!good) {
+        printf("failed: %s: %" PRIu64 "\n", name, seen);
+    }
+}
+
+/* Each comparison over all inputs counts for one, and so does each thing that enough inputs brought about. */
+static bool judge(const Result *result)
+{
+    int passed = 0;
+    int failed = 0;
+    uint64_t events = result->total.times[TALLY_EVENTS];
+    for (int i = 0; i < COMPARISONS; i++) {
+        check(result->differ[i], result->differ[i] == 0, NAMES[i], &passed, &failed);
+    }
+    for (int i = TALLY_FIRST; i < TALLY_COUNTS; i++) {
+        uint64_t inputs = result->total.inputs[i];
+        check(inputs, inputs >= GATE_INPUTS_FOR_EACH_COUNT, TALLY_NAMES[i], &passed, &failed);
+    }
+    check(events, events >= GATE_EVENTS, "events in all", &passed, &failed);
+    printf("%d passed, %d failed\n", passed, failed);
+    return failed == 0;
+}
+
+static bool run_gate(int file_count, char **files)
+{
+    static uint8_t bytes[LONGEST_INPUT];
+    static Result result;
+    for (uint64_t number = 0; number < GATE_INPUTS; number++) {
+        take(&result, bytes, generate_input(GATE_SEED, number, bytes), "the gate's seed", number);
+    }
+    for (int i = 0; i < file_count; i++) {
+        take_file(&result, files[i], (uint64_t)i);
+    }
+    tally_print(&result.total);
+    printf("%" PRIu64 " inputs compared, %d of them files\n", result.inputs, file_count);
+    return judge(&result);
+}
+
+static void keep_input(const uint8_t *bytes, size_t length, uint64_t seed, uint64_t number)
+{
+    char name[64];
+    snprintf(name, sizeof name, "difference-%" PRIu64 "-%" PRIu64, seed, number);
+    FILE *file = fopen(name, "wb");
+    bool kept = file != NULL && fwrite(bytes, 1, length, file) == length;
+    kept = file != NULL && fclose(file) == 0 && kept;
+    printf("  input %s %s\n", kept ? "kept in" : "could not be written to", name);
+}
+
+/* Comes to an end only at a difference. */
+static void run_long(uint64_t seed)
+{
+    static uint8_t bytes[LONGEST_INPUT];
+    static Result result;
+    for (uint64_t number = 0;; number++) {
+        size_t length = generate_input(seed, number, bytes);
+        if (!take(&result, bytes, length, "this seed", number)) {
+            keep_input(bytes, length, seed, number);
+            return;
+        }
+        if (result.inputs % PROGRESS_INPUTS == 0) {
+            printf("%" PRIu64 " inputs, %" PRIu64 " events, no difference\n", result.inputs,
+                   result.total.times[TALLY_EVENTS]);
+            fflush(stdout);
+        }
+    }
+}
+
+int main(int argument_count, char **arguments)
+{
+    if (argument_count >= 2 && strcmp(arguments[1], "gate") == 0) {
+        return run_gate(argument_count - 2, arguments + 2) ? EXIT_SUCCESS : EXIT_FAILURE;
+    }
+    if (argument_count == 3 && strcmp(arguments[1], "long") == 0) {
+        run_long(strtoull(arguments[2], NULL, 10));
+    } else {
+        fputs("usage: compare gate FILE..\n       compare long SEED\n", stderr);
+    }
+    return EXIT_FAILURE;
+}
