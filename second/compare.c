@@ -260,31 +260,29 @@ static void take_file(Result *result, const char *name, uint64_t number)
 
 /* ---- The two forms ---- */
 
-/* Counts a check; one that fails is printed. */
-static void check(uint64_t seen, bool good, const char *name, int *passed, int *failed)
+static bool good_count(const char *name, uint64_t seen, uint64_t least, uint64_t most)
 {
-    *(good ? passed : failed) += 1;
+    bool good = least <= seen && seen <= most;
     if (!good) {
         printf("failed: %s: %" PRIu64 "\n", name, seen);
     }
+    return good;
 }
 
 /* Each comparison over all inputs counts for one, and so does each thing that enough inputs brought about. */
 static bool judge(const Result *result)
 {
+    int checks = COMPARISONS + (TALLY_COUNTS - TALLY_FIRST) + 1;
     int passed = 0;
-    int failed = 0;
-    uint64_t events = result->total.times[TALLY_EVENTS];
     for (int i = 0; i < COMPARISONS; i++) {
-        check(result->differ[i], result->differ[i] == 0, NAMES[i], &passed, &failed);
+        passed += good_count(NAMES[i], result->differ[i], 0, 0);
     }
     for (int i = TALLY_FIRST; i < TALLY_COUNTS; i++) {
-        uint64_t inputs = result->total.inputs[i];
-        check(inputs, inputs >= GATE_INPUTS_FOR_EACH_COUNT, TALLY_NAMES[i], &passed, &failed);
+        passed += good_count(TALLY_NAMES[i], result->total.inputs[i], GATE_INPUTS_FOR_EACH_COUNT, UINT64_MAX);
     }
-    check(events, events >= GATE_EVENTS, "events in all", &passed, &failed);
-    printf("%d passed, %d failed\n", passed, failed);
-    return failed == 0;
+    passed += good_count("events in all", result->total.times[TALLY_EVENTS], GATE_EVENTS, UINT64_MAX);
+    printf("%d passed, %d failed\n", passed, checks - passed);
+    return passed == checks;
 }
 
 static bool run_gate(int file_count, char **files)
@@ -302,8 +300,11 @@ static bool run_gate(int file_count, char **files)
     return judge(&result);
 }
 
-static void keep_input(const uint8_t *bytes, size_t length, uint64_t seed, uint64_t number)
+/* Makes the input once more, since a library that writes to its input would have spoiled it. */
+static void keep_input(uint64_t seed, uint64_t number)
 {
+    static uint8_t bytes[LONGEST_INPUT];
+    size_t length = generate_input(seed, number, bytes);
     char name[64];
     snprintf(name, sizeof name, "difference-%" PRIu64 "-%" PRIu64, seed, number);
     FILE *file = fopen(name, "wb");
@@ -318,9 +319,8 @@ static void run_long(uint64_t seed)
     static uint8_t bytes[LONGEST_INPUT];
     static Result result;
     for (uint64_t number = 0;; number++) {
-        size_t length = generate_input(seed, number, bytes);
-        if (!take(&result, bytes, length, "this seed", number)) {
-            keep_input(bytes, length, seed, number);
+        if (!take(&result, bytes, generate_input(seed, number, bytes), "this seed", number)) {
+            keep_input(seed, number);
             return;
         }
         if (result.inputs % PROGRESS_INPUTS == 0) {
