@@ -125,11 +125,11 @@ module _ (s : Session) (xs ys : List ℕ) (k : ℕ) (whole : length xs ≡ 20 * 
       ∙ ap (λ (x : State). put (left-by s xs) (finally x (events-of ys))) (sym seen)
 
 -- ---- the same, said of `feed`
-fed-is : (s : Session) (size : ℕ) (b : List ℕ) → room (length b) ≤ size → fed s size b ≡ record { answer = RowsAnswer.Written (length (told s b)); session = left-by s b }
+pub fed-is : (s : Session) (size : ℕ) (b : List ℕ) → room (length b) ≤ size → fed s size b ≡ record { answer = RowsAnswer.Written (length (told s b)); session = left-by s b }
 unfolding fed
 fed-is s size b h = rw (le-ltb size (room (length b)) h)
 
-fed-into-is : (s : Session) (out : List ℤ) (b : List ℕ) → room (length b) ≤ length out → fed-into s out b ≡ written out 0 (told s b)
+pub fed-into-is : (s : Session) (out : List ℤ) (b : List ℕ) → room (length b) ≤ length out → fed-into s out b ≡ written out 0 (told s b)
 unfolding fed-into
 fed-into-is s out b h = rw (le-ltb (length out) (room (length b)) h)
 

@@ -1,0 +1,34 @@
+-- A whole session in a lent buffer: the method's rows of a table and its events.
+use mathlib.Core.Bool.{cond}
+use mathlib.Core.List.{List}
+use Prim.Native.Nat.{ℕ, _+_, _*_, _/_}
+use lib.Dec.{ltb}
+use lib.IntN.{ℤ}
+use lib.ListN.{length}
+use Rattle.method.specs.Table.{opening}
+use Rattle.method.specs.Program.{events-of, rows-after, numbers-of}
+use Rattle.rows.specs.Buffer.{written}
+use Rattle.corridor.specs.declared.RowsAnswer.{RowsAnswer}
+
+-- The numbers that so many bytes of events may come to: six a row, a row for each event, for each of at most 16 shifts, and for each of at
+-- most 32 contracts.
+abbrev pub room : ℕ → ℕ
+room size = 6 * ((size + 19) / 20 + 48)
+
+-- all rows in numbers
+abbrev pub rows-told : List ℕ → List ℕ → List ℤ
+rows-told table events = numbers-of (rows-after (opening table) (events-of events))
+
+-- what is handed back for a buffer of so many numbers
+unfoldable pub ran : ℕ → List ℕ → List ℕ → RowsAnswer
+ran size table events =
+    cond (ltb size (room (length events))) (RowsAnswer.NoRoom (room (length events))) (RowsAnswer.Written (length (rows-told table events)))
+
+-- what the buffer holds then
+unfoldable pub ran-into : List ℤ → List ℕ → List ℕ → List ℤ
+ran-into out table events = cond (ltb (length out) (room (length events))) out (written out 0 (rows-told table events))
+
+-- how many numbers there are, or would have to fit
+abbrev pub number-in : RowsAnswer → ℕ
+number-in (RowsAnswer.Written n) = n
+number-in (RowsAnswer.NoRoom n) = n

@@ -1,0 +1,68 @@
+// A whole session in one call, from a table and its events to the rows that they give; and the same for C.
+
+ghost use mathlib.Core.Path.{_≡_};
+ghost use lib.ListN.{length};
+ghost use Rattle.sundewcup.specs.Running.{room, number-in, ran, ran-into};
+use corridor::RowsAnswer;
+use method::Row;
+use method::TableAnswer;
+
+// Feed's room, and a row for each of at most 32 contracts.
+fn room(size: usize) -> usize
+    ensures { λ r. ⌜ r ≡ room size ⌝ }
+{
+    let whole = size / 20;
+    if size % 20 == 0 {
+        return 6 * (whole + 48);
+    }
+    6 * (whole + 49)
+}
+
+// How many numbers there are, or would have to fit.
+fn number_in(answer: RowsAnswer) -> usize
+    ensures { λ r. ⌜ r ≡ number-in answer ⌝ }
+{
+    match answer {
+        RowsAnswer::Written(n) => n,
+        RowsAnswer::NoRoom(n) => n,
+    }
+}
+
+// The rows of the whole: the shifts and the refused events in turn, and a closing row for each contract; or the one row of a refused
+// table. The room is worked out first: where it is not there, nothing is done.
+pub fn run(table: &[u8], events: &[u8], out: &mut [i64]) -> RowsAnswer
+    ensures { λ r. ⌜ r ≡ ran (length (now (out .entry))) (now (table .entry)) (now (events .entry)) ⌝ }
+    ensures { λ _. ⌜ now (out .exit) ≡ ran-into (now (out .entry)) (now (table .entry)) (now (events .entry)) ⌝ }
+{
+    let needed = room(events.len());
+    if out.len() < needed {
+        return RowsAnswer::NoRoom(needed);
+    }
+    let o = corridor::open(table);
+    let answer = o.answer;
+    match answer {
+        TableAnswer::Refused(why, line) => {
+            rows::write(out, 0, Row::RefusedTable(why, line));
+            RowsAnswer::Written(6)
+        }
+        TableAnswer::Opened => {
+            let session = o.session;
+            let f = session.feed(events, out);
+            let told = f.answer;
+            let at = number_in(told);
+            let last = f.session;
+            let closed = last.close(&mut out[at..]);
+            RowsAnswer::Written(at + number_in(closed))
+        }
+    }
+}
+
+// `run` for C. The answer is how many numbers were written; where `out` is too short it is how many it would have to take, which is more
+// than `out` has, and nothing is written.
+#[no_mangle]
+pub extern "C" fn sundewcup_run(table: &[u8], events: &[u8], out: &mut [i64]) -> usize
+    ensures { λ r. ⌜ r ≡ number-in (ran (length (now (out .entry))) (now (table .entry)) (now (events .entry))) ⌝ }
+    ensures { λ _. ⌜ now (out .exit) ≡ ran-into (now (out .entry)) (now (table .entry)) (now (events .entry)) ⌝ }
+{
+    number_in(run(table, events, out))
+}
