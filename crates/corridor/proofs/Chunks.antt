@@ -14,6 +14,7 @@ use Rattle.method.specs.Event.{read, Answer, accepted, refused, next}
 use Rattle.method.specs.CalledFor.{Right, Answers, joined}
 use Rattle.method.specs.Search.{answer, run, finally}
 use Rattle.method.specs.Ranges.{Sane}
+use Rattle.method.specs.Opening.{ids}
 use Rattle.method.specs.Sound.{Sound}
 use Rattle.method.specs.Program.{rows-of, rows-of-all, pieces, events-of, numbers-of}
 use Rattle.method.specs.declared.Row.the-variants as Row
@@ -28,6 +29,7 @@ use Rattle.corridor.specs.declared.Fed.{Fed}
 use Rattle.corridor.specs.View.{view, put, Valid}
 use Rattle.corridor.specs.Feeding.{room, answers-told, told, left-by, fed, fed-into}
 use Rattle.corridor.proofs.Views.{view-put, put-put, view-length, valid-put}
+use Rattle.corridor.proofs.Gathered.{ids-next}
 use Rattle.corridor.proofs.Cutting.{first-event}
 use Rattle.corridor.proofs.Feeding.{finally-kept}
 
@@ -82,10 +84,16 @@ unfolding finally
 both-finally s [] w o = (w, o)
 both-finally s (b ∷ bs) w o = both-finally (next s (read b) (answer s (read b))) bs (sane-then s w o b) (sound-then s w o b)
 
+ids-finally : (s : State) (bs : List (List ℕ)) → ids (finally s bs .lines) ≡ ids (s .lines)
+unfolding finally
+ids-finally s [] = refl
+ids-finally s (b ∷ bs) = ids-finally (next s (read b) (answer s (read b))) bs ∙ ids-next s (read b) (answer s (read b))
+
 pub valid-left : (s : Session) (b : List ℕ) → Valid s → Valid (left-by s b)
 valid-left s b v =
     let both = both-finally (view s) (events-of b) (v .sane) (v .sound) in
     valid-put s (finally (view s) (events-of b)) (v .full) (omega (arith, finally-kept (view s) (events-of b), view-length v, v .few)) (both .0) (both .1)
+    (rw (ids-finally (view s) (events-of b)) (v .distinct))
 
 -- ---- whole events, and then more
 events-on : (k : ℕ) (xs ys : List ℕ) → length xs ≡ 20 * k → events-of (xs ++ ys) ≡ events-of xs ++ events-of ys

@@ -11,7 +11,7 @@ use Rattle.method.specs.Types.{State, blank}
 use Rattle.method.specs.Opening.{ids}
 use Rattle.method.specs.Pressure.{judge}
 use Rattle.method.specs.Shift.{moved-line, shift-line, shifted, onward, after}
-use Rattle.method.specs.Event.{quoted-line, quoted, applied}
+use Rattle.method.specs.Event.{quoted-line, quoted, applied, Answer, accepted, refused, next}
 use Rattle.method.proofs.Demands.{by-cond}
 use Rattle.corridor.specs.Names.{Millionths, Seconds, Side, Line, Quote, Event, Damaged, Tick, Quoted, ShiftLine}
 
@@ -60,3 +60,8 @@ unfolding applied
 ids-applied Damaged s = refl
 ids-applied (Tick t) s = refl
 ids-applied (Quoted q) s = ids-quoted (s .near) (s .left) q (s .lines)
+
+pub ids-next : (s : State) (e : Event) (a : Answer) → ids (next s e a .lines) ≡ ids (s .lines)
+unfolding next
+ids-next s e (accepted cs) = ids-applied e (after cs s) ∙ ids-after cs s
+ids-next s e (refused why) = refl

@@ -11,9 +11,11 @@ use Rattle.method.specs.Event.{read, Answer, accepted, refused, next}
 use Rattle.method.specs.CalledFor.{Done, Right, Answers}
 use Rattle.method.specs.Search.{answer, run}
 use Rattle.method.specs.Ranges.{Every, OpeningIn}
-use Rattle.method.specs.Sound.{Sound}
+use Rattle.method.specs.Opening.{ids}
+use Rattle.method.specs.Sound.{Sound, Distinct}
 use Rattle.method.proofs.Table.{accepted-table}
 use Rattle.method.proofs.Sane.{sane-opening}
+use Rattle.method.proofs.Books.{distinct-opening}
 use Rattle.method.proofs.Answers.{sound-opening, next-sound, run-right}
 use Rattle.method.proofs.Later.{sane-next}
 use Rattle.corridor.specs.Names.{TableReason, EventReason}
@@ -21,6 +23,7 @@ use Rattle.corridor.specs.declared.Session.{Session}
 use Rattle.corridor.specs.View.{view, no-session, opened-session, Valid}
 use Rattle.corridor.specs.Reply.{reply-of}
 use Rattle.corridor.proofs.Views.{view-length, valid-put}
+use Rattle.corridor.proofs.Gathered.{ids-next}
 use Rattle.corridor.proofs.Events.{next-length}
 
 valid-none : Valid no-session
@@ -38,6 +41,7 @@ valid-none =
             rooms = unfold Every in tt;
           };
       sound = record { waits = omega arith; exact = unfold Every in tt; served = none-stands };
+      distinct = unfold Distinct in tt;
     }
   where
     none-stands : Done (seconds 0) (view no-session)
@@ -48,11 +52,12 @@ valid-none =
 
 -- `open` hands out a valid session, also beside a refusal.
 pub valid-open : (b : List ℕ) → Valid (opened-session (opening b) .session)
-valid-open b = go (opening b) (λ s q. accepted-table b s q .state) (λ s q. sound-opening b s q)
+valid-open b = go (opening b) (λ s q. accepted-table b s q .state) (λ s q. sound-opening b s q) (λ s q. distinct-opening b s q)
   where
-    go : (x : Opening) → ((s : State) → x ≡ opened s → OpeningIn s) → ((s : State) → x ≡ opened s → Sound s) → Valid (opened-session x .session)
-    go (opened s) i o = unfold opened-session in valid-put no-session s refl (i s refl .count .most) (sane-opening s (i s refl)) (o s refl)
-    go (Opening.refused why line) i o = unfold opened-session in valid-none
+    go : (x : Opening) → ((s : State) → x ≡ opened s → OpeningIn s) → ((s : State) → x ≡ opened s → Sound s)
+        → ((s : State) → x ≡ opened s → Distinct (ids (s .lines))) → Valid (opened-session x .session)
+    go (opened s) i o d = unfold opened-session in valid-put no-session s refl (i s refl .count .most) (sane-opening s (i s refl)) (o s refl) (d s refl)
+    go (Opening.refused why line) i o d = unfold opened-session in valid-none
 
 -- An event hands back a valid session, also where it is refused.
 pub valid-event : (s : Session) (b : List ℕ) → Valid s → Valid (reply-of s (read b) (answer (view s) (read b)) .session)
@@ -63,6 +68,7 @@ valid-event s b v = go (answer (view s) (read b)) (unfold run Answers in run-rig
         unfold reply-of in
         valid-put s (next (view s) (read b) (accepted cs)) (v .full) (omega (arith, next-length (view s) (read b) cs, view-length v, v .few))
         (sane-next (view s) (v .sane) (v .sound .exact) b (accepted cs) r) (next-sound (view s) (read b) (accepted cs) (v .sound) r)
+        (rw (ids-next (view s) (read b) (accepted cs)) (v .distinct))
     go (refused why) r = unfold reply-of in v
 
 -- ---- what a refusal says: its number, and of a table its line

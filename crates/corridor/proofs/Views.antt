@@ -1,5 +1,5 @@
 -- `view` and `put`: a state that is written is read back, and a session that is read and written is as it was. Assumes nothing.
-use mathlib.Core.Path.{_≡_, ap, sym, _∙_}
+use mathlib.Core.Path.{_≡_, ap, sym, subst, _∙_}
 use mathlib.Core.List.{List, _++_}
 use Prim.Native.Nat.{ℕ, _-_, _≤_}
 use native.Mathlib.Omega.{arith}
@@ -7,7 +7,8 @@ use lib.ListN.{length, take, drop, length-append, length-drop, take-append-drop}
 use lib.Seq.{take-append-seam, drop-append-seam, length-take-le}
 use Rattle.method.specs.Types.{State}
 use Rattle.method.specs.Ranges.{Sane}
-use Rattle.method.specs.Sound.{Sound}
+use Rattle.method.specs.Opening.{ids}
+use Rattle.method.specs.Sound.{Sound, Distinct}
 use Rattle.corridor.specs.Names.{Line}
 use Rattle.corridor.specs.declared.Session.{Session}
 use Rattle.corridor.specs.View.{view, put, Ranged, Valid}
@@ -49,7 +50,7 @@ ranged-put s x full few w =
     open-places : length (drop (length (x .lines)) (s .lines)) ≡ 32 - length (x .lines)
     open-places = length-drop (length (x .lines)) (s .lines) ∙ ap (λ (n : ℕ). n - length (x .lines)) full
 
-pub valid-put : (s : Session) (x : State) → length (s .lines) ≡ 32 → length (x .lines) ≤ 32 → Sane x → Sound x → Valid (put s x)
-valid-put s x full few w o =
+pub valid-put : (s : Session) (x : State) → length (s .lines) ≡ 32 → length (x .lines) ≤ 32 → Sane x → Sound x → Distinct (ids (x .lines)) → Valid (put s x)
+valid-put s x full few w o d =
     let r = ranged-put s x full few w in
-    record { full = r .full; few = r .few; sane = r .sane; sound = rw (view-put s x) o }
+    record { full = r .full; few = r .few; sane = r .sane; sound = rw (view-put s x) o; distinct = subst (λ (y : State). Distinct (ids (y .lines))) (sym (view-put s x)) d }

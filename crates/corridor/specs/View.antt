@@ -1,13 +1,14 @@
 -- A session is an array of 32 rows with a count; the method speaks of a list of exactly the table's lines. `view` reads the one as the
 -- other, `put` writes a state back, and the contracts of this crate are equations through them.
 use mathlib.Core.Path.{_≡_}
-use mathlib.Core.List.{List, _++_}
-use Prim.Native.Nat.{ℕ, _≤_}
+use mathlib.Core.List.{_++_}
+use Prim.Native.Nat.{_≤_}
 use lib.ListN.{length, take, drop, replicate}
 use Rattle.method.specs.Types.{State, blank, seconds, millionths}
+use Rattle.method.specs.Opening.{ids}
 use Rattle.method.specs.Table.{Opening, opened, refused}
 use Rattle.method.specs.Ranges.{Sane}
-use Rattle.method.specs.Sound.{Sound}
+use Rattle.method.specs.Sound.{Sound, Distinct}
 use Rattle.corridor.specs.Names.{TableAnswer}
 use Rattle.corridor.specs.declared.Session.{Session}
 use Rattle.corridor.specs.declared.Opened.{Opened}
@@ -44,10 +45,11 @@ pub record Ranged (s : Session) : Type 0 where
   pub few : s .count ≤ 32
   pub sane : Sane (view s)
 
--- What a method of a session asks, and every session has: the array's length, the ranges of its numbers, and that holds stand exactly
--- where there is pressure and none is left to serve up to the clock.
+-- What a method of a session asks, and every session has: the array's length, the ranges of its numbers, that holds stand exactly where
+-- there is pressure and none is left to serve up to the clock, and that no id stands twice.
 pub record Valid (s : Session) : Type 0 where
   pub full : length (s .lines) ≡ 32
   pub few : s .count ≤ 32
   pub sane : Sane (view s)
   pub sound : Sound (view s)
+  pub distinct : Distinct (ids (view s .lines))

@@ -45,7 +45,7 @@ impl Session {
             let h = l.holds;
             best = holds::due::passed(wait, i, h, best);
         }
-        match verdict::screen(&ids[..n], end, clock, e) {
+        match verdict::screen(&ids[..n], 0, end, clock, e) {
             Verdict::Refused(why) => self.refused(why),
             Verdict::Taken(v) => {
                 let t = v.time;

@@ -51,7 +51,7 @@ fn until(quiet: Seconds, t: Seconds, wait: Seconds) -> Seconds
 impl Session {
     // Every event of the buffer in turn; a last one that is cut short is refused like any string that is no event. The room is worked out
     // first: where it is not there, nothing is done. The session stays in its place: it goes by value only where a hold may be due, which
-    // is never before the second `quiet`.
+    // is never before the second `quiet`. A guess at each id's place spares most searches; nothing hangs on its being right.
     pub fn feed(mut self, events: &[u8], out: &mut [i64]) -> Fed
         requires { ⌜ Valid self ⌝ }
         ensures { λ r. ⌜ r ≡ fed self (length (now (out .entry))) (now (events .entry)) ⌝ }
@@ -67,9 +67,13 @@ impl Session {
         }
         let n = self.count;
         let mut ids: [u32; 32] = [0; 32];
+        let mut guesses: [u8; 256] = [0; 256];
         for i in 0..n {
             let l = self.lines[i];
-            ids[i] = l.terms.id;
+            let id = l.terms.id;
+            ids[i] = id;
+            let slot = (id % 256) as usize;
+            guesses[slot] = i as u8;
         }
         let mut quiet = Seconds(0);
         let mut at: usize = 0;
@@ -80,7 +84,9 @@ impl Session {
             from = to;
             let end = self.end;
             let clock = self.clock;
-            match verdict::screen(&ids[..n], end, clock, e) {
+            let slot = verdict::slot(e);
+            let guess = guesses[slot];
+            match verdict::screen(&ids[..n], guess, end, clock, e) {
                 Verdict::Refused(why) => {
                     rows::write(out, at, Row::RefusedEvent(why));
                     at = at + 6;

@@ -10,6 +10,7 @@ use borrow.Author.Tests.{eqb-true, eqb-false}
 use Rattle.method.specs.Types.{Millionths, Key, Contract, Line, ShiftLine, State, EventAnswer, seconds}
 use Rattle.method.specs.Wire.{word, signed, bit}
 use Rattle.method.specs.Opening.{ids, terms-of, fresh-line}
+use Rattle.method.specs.Sound.{Distinct}
 use Rattle.method.specs.Table.{opened, opening-state, opening}
 use Rattle.method.specs.Pressure.{judge}
 use Rattle.method.specs.Shift.{moved-line, shift-line, shifted, onward, after}
@@ -29,10 +30,6 @@ use Rattle.method.proofs.Later.{moment-reached}
 use Rattle.method.proofs.Reached.{shifted-moment}
 
 -- ---- the ids of an accepted table differ
-unfoldable pub Apart : List ℕ → Type 0
-Apart [] = Unit {0}
-Apart (i ∷ is) = Every (λ j. j ≡ i → ⊥) is × Apart is
-
 module _ (shift : Millionths) (keys : List Key) where
   -- no contract after c has its id
   none-again : (xs : List Contract) (c : Contract) (ys cs : List Contract) → GoodAll shift keys (xs ++ c ∷ ys) cs
@@ -44,17 +41,17 @@ module _ (shift : Millionths) (keys : List Key) where
     none-again xs c (ys ++ (d ∷ [])) cs (subst (λ (es : List Contract). GoodAll shift keys es cs) (append-assoc xs (c ∷ ys) (d ∷ [])) (g .1)),
   )
 
-  good-apart : (xs cs : List Contract) → GoodAll shift keys xs cs → Apart (ids (map (its-line shift keys) cs))
-  unfolding GoodAll Apart fresh-line terms-of
-  good-apart xs [] g = tt
-  good-apart xs (c ∷ cs) g = (none-again xs c [] cs (g .1), good-apart (xs ++ (c ∷ [])) cs (g .1))
+  good-distinct : (xs cs : List Contract) → GoodAll shift keys xs cs → Distinct (ids (map (its-line shift keys) cs))
+  unfolding GoodAll Distinct fresh-line terms-of
+  good-distinct xs [] g = tt
+  good-distinct xs (c ∷ cs) g = (none-again xs c [] cs (g .1), good-distinct (xs ++ (c ∷ [])) cs (g .1))
 
-apart-opened : (table : List ℕ) (o : State) → opening table ≡ opened o → Apart (ids (o .lines))
+pub distinct-opening : (table : List ℕ) (o : State) → opening table ≡ opened o → Distinct (ids (o .lines))
 unfolding opening-state
-apart-opened table o e = go o (subst (TableAnswered table) e (table-answered table))
+distinct-opening table o e = go o (subst (TableAnswered table) e (table-answered table))
   where
-    go : (s : State) → TableAnswered table (opened s) → Apart (ids (s .lines))
-    go s (all-good f k g) = good-apart _ _ [] _ g
+    go : (s : State) → TableAnswered table (opened s) → Distinct (ids (s .lines))
+    go s (all-good f k g) = good-distinct _ _ [] _ g
 
 same-ids : (R : Line → Line → Type 0) → ((o l : Line) → R o l → l .terms ≡ o .terms) → (os ls : List Line) → Each R os ls → ids os ≡ ids ls
 unfolding Each
@@ -66,12 +63,12 @@ same-ids R h (o ∷ os) (l ∷ ls) rs =
     let tail = same-ids R h os ls (rs .1) in
     cc
 
-pub apart-reached : (table : List ℕ) (o : State) → opening table ≡ opened o → (bs : List (List ℕ)) (rs : List Answer) → Answers o bs rs
-    → Apart (ids (reached o bs rs .lines))
-apart-reached table o e bs rs h =
-    subst Apart
+pub distinct-reached : (table : List ℕ) (o : State) → opening table ≡ opened o → (bs : List (List ℕ)) (rs : List Answer) → Answers o bs rs
+    → Distinct (ids (reached o bs rs .lines))
+distinct-reached table o e bs rs h =
+    subst Distinct
     (same-ids _ (λ a l s. s .terms) (o .lines) (reached o bs rs .lines) (shifted-moment (accepted-table table o e .state) (moment-reached bs rs start h)))
-    (apart-opened table o e)
+    (distinct-opening table o e)
 
 -- ---- a shift leaves terms and book of every line
 pub record Alike (l n : Line) : Type 0 where
@@ -121,8 +118,8 @@ module _ (near : Millionths) (left : ℕ) (b : List ℕ) (quote : IsQuote b) whe
         stays = λ other. absurd (other (record { quote = quote; id = e }));
       }
 
-  quoted-books : (os ls : List Line) → Apart (ids ls) → Each Alike os ls → Each (BookLife b) os (quoted near left (the-quote b) ls)
-  unfolding Each Apart quoted
+  quoted-books : (os ls : List Line) → Distinct (ids ls) → Each Alike os ls → Each (BookLife b) os (quoted near left (the-quote b) ls)
+  unfolding Each Distinct quoted
   quoted-books [] [] ps rs = tt
   quoted-books [] (l ∷ ls) ps rs = absurd rs
   quoted-books (o ∷ os) [] ps rs = rs
@@ -143,7 +140,7 @@ module _ (s : State) (b : List ℕ) where
   taken : verdict s (read b) ≡ EventAnswer.Accepted → EventAnswered s b EventAnswer.Accepted
   taken v = subst (EventAnswered s b) v (event-answered s b)
 
-  pub books-over : (cs : List ShiftLine) → Apart (ids (s .lines)) → verdict s (read b) ≡ EventAnswer.Accepted
+  pub books-over : (cs : List ShiftLine) → Distinct (ids (s .lines)) → verdict s (read b) ≡ EventAnswer.Accepted
       → Each (BookLife b) (s .lines) (next s (read b) (accepted cs) .lines)
   unfolding next applied
   books-over cs ps v = go (taken v)
@@ -158,7 +155,7 @@ module _ (s : State) (b : List ℕ) where
       go (quote-taken q i k c) =
           rw (read-quote-is s b q)
           (quoted-books (after cs s .near) (after cs s .left) b q (s .lines) (after cs s .lines)
-          (subst Apart (same-ids Alike (λ o l a. a .terms) (s .lines) (after cs s .lines) rs) ps) rs)
+          (subst Distinct (same-ids Alike (λ o l a. a .terms) (s .lines) (after cs s .lines) rs) ps) rs)
 
   pub accepted-time : verdict s (read b) ≡ EventAnswer.Accepted → time (read b) ≡ seconds (word b 0)
   accepted-time v = go (taken v)

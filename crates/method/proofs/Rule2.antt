@@ -55,7 +55,7 @@ use Rattle.method.proofs.Moments.{pressed-since}
 use Rattle.method.proofs.OtherSide.{Fit, fit-opened, fit-shift, fit-quote}
 use Rattle.method.proofs.NoneMissed.{calls-answer}
 use Rattle.method.proofs.Each.{each-weaker}
-use Rattle.method.proofs.Books.{Alike, alike-onward, apart-reached, books-over, accepted-time}
+use Rattle.method.proofs.Books.{Alike, alike-onward, distinct-reached, books-over, accepted-time}
 
 -- ---- right answers, and no others
 pub rule2-answers : RightAnswers
@@ -83,7 +83,7 @@ rule2-books-over-a-shift s c = each-weaker Alike _ (λ l n a. a .book) (s .lines
 pub rule2-books : BookOverEvent
 rule2-books table o e past told h b cs r =
     let s : State = reached o past told in
-    books-over s b cs (apart-reached table o e past told h) (unfold Right in r .0)
+    books-over s b cs (distinct-reached table o e past told h) (unfold Right in r .0)
 
 pub rule2-clock : ClockSet
 rule2-clock table o e past told h b cs r =

@@ -1,6 +1,7 @@
 -- What holds of a session at opening and after every event.
 use mathlib.Core.Path.{_≡_}
 use mathlib.Core.Bool.{Bool, true, false, _&&_}
+use mathlib.Core.List.{List, [], _∷_}
 use Prim.Native.Nat.{ℕ, _≤_}
 use lib.Dec.{ltb}
 use Rattle.method.specs.Types.{Side, Millionths, Hold, Idle, Since, Line, State}
@@ -21,3 +22,8 @@ pub record Sound (s : State) : Type 0 where
   pub waits : 1 ≤ s .hold .0
   pub exact : Every (Exact (s .near) (s .left)) (s .lines)
   pub served : Done (s .clock) s
+
+-- no id stands twice (refusal 6: "id 0 or used on an earlier line")
+unfoldable pub Distinct : List ℕ → Type 0
+Distinct [] = Unit {0}
+Distinct (i ∷ is) = Every (λ j. j ≡ i → ⊥) is × Distinct is

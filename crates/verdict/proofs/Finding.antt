@@ -1,15 +1,18 @@
 -- The search for an id: none of the ids before i is it. Assumes nothing.
-use mathlib.Core.Path.{_≡_, refl, ap, _∙_}
+use mathlib.Core.Path.{_≡_, refl, sym, ap, _∙_}
 use mathlib.Core.Bool.{Bool, true, false, cond}
 use mathlib.Core.List.{List, [], _∷_}
-use Prim.Native.Nat.{ℕ, suc, _+_, _≤_, _<_}
+use Prim.Native.Nat.{ℕ, zero, suc, _+_, _≤_, _<_}
 use native.Mathlib.Numerals.{add-one}
 use native.Mathlib.Omega.{arith}
 use borrow.Author.Tests.{eq-eqb, ne-eqb, lt-ltb, le-ltb}
 use lib.Dec.{eqb, ltb}
 use lib.ListN.{length, getD, drop}
 use lib.Seq.{drop-cons, drop-length}
-use Rattle.verdict.specs.Screened.{place-of}
+use Rattle.method.specs.Ranges.{Every}
+use Rattle.method.specs.Sound.{Distinct}
+use Rattle.verdict.specs.Names.{Event, Damaged, Tick, Quoted}
+use Rattle.verdict.specs.Screened.{slot-of, place-of}
 
 pub record Passed (id : ℕ) (ids : List ℕ) (i : ℕ) : Type 0 where
   pub on : place-of id ids ≡ i + place-of id (drop i ids)
@@ -55,3 +58,23 @@ module _ (id : ℕ) (ids : List ℕ) {place : ℕ} (e : place ≡ place-of id id
 
   pub found-one : (place ≡ length ids → ⊥) → ltb (place-of id ids) (length ids) ≡ true
   found-one h = let most = place-most id ids in lt-ltb (place-of id ids) (length ids) (omega arith)
+
+-- ---- a guess
+every-at : (P : ℕ → Type 0) (ids : List ℕ) (p : ℕ) → Every P ids → p < length ids → P (getD ids p 0)
+unfolding Every
+every-at P [] p h g = absurd (omega arith)
+every-at P (j ∷ ids) zero h g = h .0
+every-at P (j ∷ ids) (suc p) h g = every-at P ids p (h .1) (omega arith)
+
+-- where no id stands twice, the place that has it is the first
+pub guessed : (id : ℕ) (ids : List ℕ) (p : ℕ) → Distinct ids → p < length ids → getD ids p 0 ≡ id → p ≡ place-of id ids
+unfolding Distinct place-of
+guessed id [] p d h e = absurd (omega arith)
+guessed id (j ∷ ids) zero d h e = rw (eq-eqb j id e)
+guessed id (j ∷ ids) (suc p) d h e =
+    rw (ne-eqb j id (λ s. every-at (λ k. k ≡ j → ⊥) ids p (d .0) (omega arith) (e ∙ sym s))) (ap suc (guessed id ids p (d .1) (omega arith) e))
+
+pub slot-below : (e : Event) → slot-of e < 256
+slot-below Damaged = omega arith
+slot-below (Tick t) = omega arith
+slot-below (Quoted q) = omega arith

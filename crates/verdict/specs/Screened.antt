@@ -1,7 +1,7 @@
 -- What becomes of an event, from the ids of the table, the session's end and its clock. `Says` (proofs/Saying) ties it to the method's verdict.
 use mathlib.Core.Bool.{cond}
 use mathlib.Core.List.{List, [], _∷_}
-use Prim.Native.Nat.{ℕ, suc}
+use Prim.Native.Nat.{ℕ, suc, _%_}
 use lib.Dec.{ltb, leb, eqb}
 use lib.ListN.{length}
 use Rattle.method.specs.Types.{demand}
@@ -9,6 +9,12 @@ use Rattle.method.specs.Event.{not-crossed}
 use Rattle.verdict.specs.Names.{Seconds, Quote, Event, Damaged, Tick, Quoted, EventReason}
 use Rattle.verdict.specs.declared.Change.{Change}
 use Rattle.verdict.specs.declared.Verdict.{Verdict}
+
+-- the slot of a guess at an id's place: any would do
+abbrev pub slot-of : Event → ℕ
+slot-of Damaged = 0
+slot-of (Tick t) = 0
+slot-of (Quoted q) = q .id % 256
 
 -- how many ids stand before this one
 unfoldable pub place-of : ℕ → List ℕ → ℕ

@@ -1,8 +1,9 @@
 // Whether an event is taken, and what it then changes.
 
 ghost use mathlib.Core.Path.{_≡_};
+ghost use Rattle.method.specs.Sound.{Distinct};
 ghost use Rattle.method.specs.Event.{not-crossed};
-ghost use Rattle.verdict.specs.Screened.{place-of, timely, quote-screened, screened};
+ghost use Rattle.verdict.specs.Screened.{slot-of, place-of, timely, quote-screened, screened};
 use method::Event;
 use method::EventReason;
 use method::Price;
@@ -44,11 +45,30 @@ fn not_crossed(bid: Price, ask: Price) -> bool
     }
 }
 
-// How many ids stand before this one, or how many there are where it is none of them.
-fn place_of(ids: &[u32], id: u32) -> usize
+// A slot for an event's id, so that a caller can keep a guess at the place of each id.
+pub fn slot(e: Event) -> usize
+    ensures { λ r. ⌜ r ≡ slot-of e ⌝ }
+{
+    match e {
+        Event::Damaged => 0,
+        Event::Tick(_) => 0,
+        Event::Quoted(q) => (q.id % 256) as usize,
+    }
+}
+
+// How many ids stand before this one, or how many there are where it is none of them. A guess that is right spares the search, and one
+// that is wrong costs nothing but time.
+fn place_of(ids: &[u32], guess: u8, id: u32) -> usize
+    requires { ⌜ Distinct (now ids) ⌝ }
     ensures { λ r. ⌜ r ≡ place-of id (now (ids .entry)) ⌝ }
 {
     let n = ids.len();
+    let likely = guess as usize;
+    if likely < n {
+        if ids[likely] == id {
+            return likely;
+        }
+    }
     let mut i: usize = 0;
     let place = loop {
         if i == n {
@@ -76,10 +96,11 @@ fn timely(end: Seconds, clock: Seconds, t: Seconds, onward: Verdict) -> Verdict
 }
 
 // Refusals 13 and 14.
-fn quote_screened(ids: &[u32], q: Quote) -> Verdict
+fn quote_screened(ids: &[u32], guess: u8, q: Quote) -> Verdict
+    requires { ⌜ Distinct (now ids) ⌝ }
     ensures { λ r. ⌜ r ≡ quote-screened (now (ids .entry)) q ⌝ }
 {
-    let place = place_of(ids, q.id);
+    let place = place_of(ids, guess, q.id);
     if place == ids.len() {
         return Verdict::Refused(EventReason::UnknownId);
     }
@@ -98,8 +119,9 @@ fn quote_screened(ids: &[u32], q: Quote) -> Verdict
     })
 }
 
-// What becomes of an event in a session of these ids, this end and this clock.
-pub fn screen(ids: &[u32], end: Seconds, clock: Seconds, e: Event) -> Verdict
+// What becomes of an event in a session of these ids, this end and this clock; with a guess at the place of a quote's line.
+pub fn screen(ids: &[u32], guess: u8, end: Seconds, clock: Seconds, e: Event) -> Verdict
+    requires { ⌜ Distinct (now ids) ⌝ }
     ensures { λ r. ⌜ r ≡ screened (now (ids .entry)) end clock e ⌝ }
 {
     match e {
@@ -115,7 +137,7 @@ pub fn screen(ids: &[u32], end: Seconds, clock: Seconds, e: Event) -> Verdict
         ),
         Event::Quoted(q) => {
             let time = q.time;
-            timely(end, clock, time, quote_screened(ids, q))
+            timely(end, clock, time, quote_screened(ids, guess, q))
         }
     }
 }

@@ -6,6 +6,7 @@ use mathlib.Core.Logic.{⊎-elim}
 use Prim.Native.Nat.{_≤_, _<_, _-_}
 use native.Mathlib.Omega.{arith}
 use lib.Seq.{length-take-le}
+use Rattle.method.specs.Sound.{Distinct}
 use Rattle.method.specs.Event.{read}
 use Rattle.method.specs.Search.{next-due, serve}
 use Rattle.verdict.specs.declared.Change.{Change}
@@ -71,7 +72,10 @@ slice-aggregate-screen : tie.Need-slice-aggregate-screen Inv-loop μ-loop
 slice-aggregate-screen c = let v = c .before .before .before .before .before .before .before .before .pre in sym (length-take-le _ (c .before .before .loop .ids) (omega (arith, v .few, c .before .before .loop .inv .2 .long)))
 
 screen-requires : tie.Need-screen-requires Inv-loop μ-loop
-screen-requires c κs = search needs
+screen-requires c κs =
+    let s = c .before .before .before .before .before .before .before .before in
+    let at = c .before .before .loop in
+    subst Distinct (sym (gathered-all (s .args .t1 .lines) (s .args .t1 .count) (at .i) (at .ids) (omega arith) (at .inv .2))) (s .pre .distinct)
 
 enum-known-why : tie.Need-enum-known-why Inv-loop μ-loop
 enum-known-why c = search needs

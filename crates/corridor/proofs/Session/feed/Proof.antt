@@ -7,8 +7,10 @@ use Prim.Native.Nat.{_≤_, _<_, _-_}
 use native.Mathlib.Omega.{arith}
 use lib.ListN.{length, take, drop}
 use lib.Seq.{length-take-le}
+use Rattle.method.specs.Sound.{Distinct}
 use Rattle.method.specs.Event.{read}
 use Rattle.verdict.specs.declared.Change.{Change}
+use Rattle.verdict.proofs.Finding.{slot-below}
 use Rattle.corridor.specs.View.{view}
 use Rattle.corridor.specs.Feeding.{room}
 use Rattle.corridor.proofs.Views.{view-length}
@@ -23,16 +25,16 @@ use Rattle.corridor.proofs.Session.feed.Statement.{statement}
 use Rattle.corridor.proofs.Session.feed.Tie as tie
 
 abbrev Inv-loop : tie.InvT-loop
-Inv-loop events out self size needed n ids₀ i₀ ids i = (i ≤ n) × Gathered (self .lines) i ids
+Inv-loop events out self size needed n ids₀ guesses₀ i₀ ids guesses i = (i ≤ n) × Gathered (self .lines) i ids
 
 abbrev μ-loop : tie.MeasureT-loop
-μ-loop events out self size needed n ids₀ i₀ ids i = n - i
+μ-loop events out self size needed n ids₀ guesses₀ i₀ ids guesses i = n - i
 
 abbrev Inv-loop2 : tie.InvT-loop2
-Inv-loop2 events out₀ self₀ size needed n ids quiet₀ at₀ from₀ out self quiet at from = Turn self₀ events out₀ n ids self quiet at from out
+Inv-loop2 events out₀ self₀ size needed n ids guesses quiet₀ at₀ from₀ out self quiet at from = Turn self₀ events out₀ n ids self quiet at from out
 
 abbrev μ-loop2 : tie.MeasureT-loop2
-μ-loop2 events out₀ self₀ size needed n ids quiet₀ at₀ from₀ out self quiet at from = size - from
+μ-loop2 events out₀ self₀ size needed n ids guesses quiet₀ at₀ from₀ out self quiet at from = size - from
 
 room-requires : tie.Need-room-requires Inv-loop μ-loop Inv-loop2 μ-loop2
 room-requires c κs = tt
@@ -59,6 +61,15 @@ mul-ids c = let v = c .before .before .before .before .before .before .pre in om
 
 array-write-ids : tie.Need-array-write-ids Inv-loop μ-loop Inv-loop2 μ-loop2
 array-write-ids c = let v = c .before .before .before .before .before .before .pre in omega (arith, v .few)
+
+cast-slot : tie.Need-cast-slot Inv-loop μ-loop Inv-loop2 μ-loop2
+cast-slot c = search needs
+
+cast-guesses : tie.Need-cast-guesses Inv-loop μ-loop Inv-loop2 μ-loop2
+cast-guesses c = let v = c .before .before .before .before .before .before .pre in omega (arith, v .few)
+
+array-write-guesses : tie.Need-array-write-guesses Inv-loop μ-loop Inv-loop2 μ-loop2
+array-write-guesses c = omega arith
 
 add-i : tie.Need-add-i Inv-loop μ-loop Inv-loop2 μ-loop2
 add-i c = let v = c .before .before .before .before .before .before .pre in omega (arith, v .few)
@@ -98,74 +109,80 @@ part-read-end c = cut c .inside
 read-requires : tie.Need-read-requires Inv-loop μ-loop Inv-loop2 μ-loop2
 read-requires c κs = search needs
 
+slot-requires : tie.Need-slot-requires Inv-loop μ-loop Inv-loop2 μ-loop2
+slot-requires c κs = search needs
+
+array-read-guess : tie.Need-array-read-guess Inv-loop μ-loop Inv-loop2 μ-loop2
+array-read-guess c = omega (arith, c .slot .ensures, slot-below (c .before .before .before .read .result))
+
 array-share-prefix-ids : tie.Need-array-share-prefix-ids Inv-loop μ-loop Inv-loop2 μ-loop2
-array-share-prefix-ids c = omega (arith, c .before .before .before .before .before .before .before .before .before .before .before .before .pre .few, c .before .before .before .before .before .before .before .before .loop .inv .1 .long)
+array-share-prefix-ids c = omega (arith, c .before .before .before .before .before .before .before .before .before .before .before .before .before .pre .few, c .before .before .before .before .before .before .before .before .before .loop .inv .1 .long)
 
 slice-aggregate-screen : tie.Need-slice-aggregate-screen Inv-loop μ-loop Inv-loop2 μ-loop2
-slice-aggregate-screen c = sym (length-take-le _ (c .before .before .before .before .before .before .before .before .before .loop .ids) (omega (arith, c .before .before .before .before .before .before .before .before .before .before .before .before .before .pre .few, c .before .before .before .before .before .before .before .before .before .loop .inv .1 .long)))
+slice-aggregate-screen c = sym (length-take-le _ (c .before .before .before .before .before .before .before .before .before .before .loop .ids) (omega (arith, c .before .before .before .before .before .before .before .before .before .before .before .before .before .before .pre .few, c .before .before .before .before .before .before .before .before .before .before .loop .inv .1 .long)))
 
 screen-requires : tie.Need-screen-requires Inv-loop μ-loop Inv-loop2 μ-loop2
-screen-requires c κs = search needs
+screen-requires c κs = subst Distinct (sym (c .before .before .before .before .before .before .before .before .loop2 .inv .named)) (c .before .before .before .before .before .before .before .before .loop2 .inv .ahead .valid .distinct)
 
 enum-known-why : tie.Need-enum-known-why Inv-loop μ-loop Inv-loop2 μ-loop2
 enum-known-why c = search needs
 
 write-requires : tie.Need-write-requires Inv-loop μ-loop Inv-loop2 μ-loop2
-write-requires c κs = row-fits (c .before .before .before .before .before .before .before .before .before .before .before .before .before .before .before .before .before .before .args .t1) (now (c .before .before .before .before .before .before .before .before .before .before .before .before .before .before .before .before .before .before .args .events)) (now (c .before .before .before .before .before .before .before .before .before .before .before .before .before .before .before .before .before .before .args .out)) _ _ (c .before .before .before .before .before .before .before .before .before .before .before .before .loop2 .inv) (c .before .before .before .before .before .before .before .before .before .before .before .loop2-test .taken) (cut (c .before .before .before .before .before .before .before .before .before .before))
+write-requires c κs = row-fits (c .before .before .before .before .before .before .before .before .before .before .before .before .before .before .before .before .before .before .before .args .t1) (now (c .before .before .before .before .before .before .before .before .before .before .before .before .before .before .before .before .before .before .before .args .events)) (now (c .before .before .before .before .before .before .before .before .before .before .before .before .before .before .before .before .before .before .before .args .out)) _ _ (c .before .before .before .before .before .before .before .before .before .before .before .before .before .loop2 .inv) (c .before .before .before .before .before .before .before .before .before .before .before .before .loop2-test .taken) (cut (c .before .before .before .before .before .before .before .before .before .before .before))
 
 add-at : tie.Need-add-at Inv-loop μ-loop Inv-loop2 μ-loop2
 add-at c =
-    let s = c .before .before .before .before .before .before .before .before .before .before .before .before .before .before .before .before .before .before .before .before in
-    let at = c .before .before .before .before .before .before .before .before .before .before .before .before .before .before .loop2 in
-    omega (arith, row-fits (s .args .t1) (now (s .args .events)) (now (s .args .out)) _ _ (at .inv) (c .before .before .before .before .before .before .before .before .before .before .before .before .before .loop2-test .taken) (cut (c .before .before .before .before .before .before .before .before .before .before .before .before)), ahead-long (s .args .t1) (now (s .args .events)) (now (s .args .out)) (at .inv .ahead), s .good)
+    let s = c .before .before .before .before .before .before .before .before .before .before .before .before .before .before .before .before .before .before .before .before .before in
+    let at = c .before .before .before .before .before .before .before .before .before .before .before .before .before .before .before .loop2 in
+    omega (arith, row-fits (s .args .t1) (now (s .args .events)) (now (s .args .out)) _ _ (at .inv) (c .before .before .before .before .before .before .before .before .before .before .before .before .before .before .loop2-test .taken) (cut (c .before .before .before .before .before .before .before .before .before .before .before .before .before)), ahead-long (s .args .t1) (now (s .args .events)) (now (s .args .out)) (at .inv .ahead), s .good)
 
 loop2-less : tie.Need-loop2-less Inv-loop μ-loop Inv-loop2 μ-loop2
-loop2-less c = let k = cut (c .before .before .before .before .before .before .before .before .before .before .before .before) in omega (arith, k .on, k .inside)
+loop2-less c = let k = cut (c .before .before .before .before .before .before .before .before .before .before .before .before .before) in omega (arith, k .on, k .inside)
 
 -- ---- what the verdict says
 said : (c : tie.After-screen Inv-loop μ-loop Inv-loop2 μ-loop2)
-    → Says (view (c .before .before .before .before .before .before .before .before .loop2 .self)) (read (take (c .before .before .before .before .before .before .cut .result - c .before .before .before .before .before .before .before .before .loop2 .from) (drop (c .before .before .before .before .before .before .before .before .loop2 .from) (now (c .before .before .before .before .before .before .before .before .before .before .before .before .before .before .args .events))))) (c .screen .result)
-said c = session-says (c .before .before .before .before .before .before .before .before .loop2 .self) (c .before .before .before .before .before .before .before .before .loop2 .inv .named) (c .before .before .before .before .read .ensures) (c .screen .ensures)
+    → Says (view (c .before .before .before .before .before .before .before .before .before .loop2 .self)) (read (take (c .before .before .before .before .before .before .before .cut .result - c .before .before .before .before .before .before .before .before .before .loop2 .from) (drop (c .before .before .before .before .before .before .before .before .before .loop2 .from) (now (c .before .before .before .before .before .before .before .before .before .before .before .before .before .before .before .args .events))))) (c .screen .result)
+said c = session-says (c .before .before .before .before .before .before .before .before .before .loop2 .self) (c .before .before .before .before .before .before .before .before .before .loop2 .inv .named) (c .before .before .before .before .before .read .ensures) (c .screen .ensures)
 
 takes : (c : tie.After-t Inv-loop μ-loop Inv-loop2 μ-loop2)
-    → Takes (view (c .before .before .before .before .before .before .before .before .before .before .before .before .loop2 .self)) (read (take (c .before .before .before .before .before .before .before .before .before .before .cut .result - c .before .before .before .before .before .before .before .before .before .before .before .before .loop2 .from) (drop (c .before .before .before .before .before .before .before .before .before .before .before .before .loop2 .from) (now (c .before .before .before .before .before .before .before .before .before .before .before .before .before .before .before .before .before .before .args .events))))) (c .before .before .v .given .0 .0)
-takes c = subst (Says (view (c .before .before .before .before .before .before .before .before .before .before .before .before .loop2 .self)) (read (take (c .before .before .before .before .before .before .before .before .before .before .cut .result - c .before .before .before .before .before .before .before .before .before .before .before .before .loop2 .from) (drop (c .before .before .before .before .before .before .before .before .before .before .before .before .loop2 .from) (now (c .before .before .before .before .before .before .before .before .before .before .before .before .before .before .before .before .before .before .args .events)))))) (c .before .before .v .given .1) (said (c .before .before .before .before))
+    → Takes (view (c .before .before .before .before .before .before .before .before .before .before .before .before .before .loop2 .self)) (read (take (c .before .before .before .before .before .before .before .before .before .before .before .cut .result - c .before .before .before .before .before .before .before .before .before .before .before .before .before .loop2 .from) (drop (c .before .before .before .before .before .before .before .before .before .before .before .before .before .loop2 .from) (now (c .before .before .before .before .before .before .before .before .before .before .before .before .before .before .before .before .before .before .before .args .events))))) (c .before .before .v .given .0 .0)
+takes c = subst (Says (view (c .before .before .before .before .before .before .before .before .before .before .before .before .before .loop2 .self)) (read (take (c .before .before .before .before .before .before .before .before .before .before .before .cut .result - c .before .before .before .before .before .before .before .before .before .before .before .before .before .loop2 .from) (drop (c .before .before .before .before .before .before .before .before .before .before .before .before .before .loop2 .from) (now (c .before .before .before .before .before .before .before .before .before .before .before .before .before .before .before .before .before .before .before .args .events)))))) (c .before .before .v .given .1) (said (c .before .before .before .before))
 
 loop2-again : tie.Need-loop2-again Inv-loop μ-loop Inv-loop2 μ-loop2
 loop2-again c =
-    let s = c .before .before .before .before .before .before .before .before .before .before .before .before .before .before .before .before .before .before .before .before in
-    turn-refused (s .args .t1) (now (s .args .events)) (now (s .args .out)) _ _ (c .before .before .before .before .before .before .before .before .before .before .before .before .before .before .loop2 .inv) (c .before .before .before .before .before .before .before .before .before .before .before .before .before .loop2-test .taken) (cut (c .before .before .before .before .before .before .before .before .before .before .before .before)) _
-    (subst (Says (view (c .before .before .before .before .before .before .before .before .before .before .before .before .before .before .loop2 .self)) (read (take (c .before .before .before .before .before .before .before .before .before .before .before .before .cut .result - c .before .before .before .before .before .before .before .before .before .before .before .before .before .before .loop2 .from) (drop (c .before .before .before .before .before .before .before .before .before .before .before .before .before .before .loop2 .from) (now (s .args .events)))))) (c .before .before .before .before .why .given .1) (said (c .before .before .before .before .before .before)))
+    let s = c .before .before .before .before .before .before .before .before .before .before .before .before .before .before .before .before .before .before .before .before .before in
+    turn-refused (s .args .t1) (now (s .args .events)) (now (s .args .out)) _ _ (c .before .before .before .before .before .before .before .before .before .before .before .before .before .before .before .loop2 .inv) (c .before .before .before .before .before .before .before .before .before .before .before .before .before .before .loop2-test .taken) (cut (c .before .before .before .before .before .before .before .before .before .before .before .before .before)) _
+    (subst (Says (view (c .before .before .before .before .before .before .before .before .before .before .before .before .before .before .before .loop2 .self)) (read (take (c .before .before .before .before .before .before .before .before .before .before .before .before .before .cut .result - c .before .before .before .before .before .before .before .before .before .before .before .before .before .before .before .loop2 .from) (drop (c .before .before .before .before .before .before .before .before .before .before .before .before .before .before .before .loop2 .from) (now (s .args .events)))))) (c .before .before .before .before .why .given .1) (said (c .before .before .before .before .before .before)))
     (c .before .write .ensures)
 
 enum-known-v : tie.Need-enum-known-v Inv-loop μ-loop Inv-loop2 μ-loop2
 enum-known-v c = search needs
 
 served-requires : tie.Need-served-requires Inv-loop μ-loop Inv-loop2 μ-loop2
-served-requires c κs = c .before .before .before .before .before .before .before .before .before .before .before .before .before .before .before .loop2 .inv .ahead .valid
+served-requires c κs = c .before .before .before .before .before .before .before .before .before .before .before .before .before .before .before .before .loop2 .inv .ahead .valid
 
 write-shifts-requires : tie.Need-write-shifts-requires Inv-loop μ-loop Inv-loop2 μ-loop2
 write-shifts-requires c κs =
-    let s = c .before .before .before .before .before .before .before .before .before .before .before .before .before .before .before .before .before .before .before .before .before .before .before .before in
-    let at = c .before .before .before .before .before .before .before .before .before .before .before .before .before .before .before .before .before .before .loop2 in
+    let s = c .before .before .before .before .before .before .before .before .before .before .before .before .before .before .before .before .before .before .before .before .before .before .before .before .before in
+    let at = c .before .before .before .before .before .before .before .before .before .before .before .before .before .before .before .before .before .before .before .loop2 in
     let few = served-few (at .self) _ (at .inv .ahead .valid) (c .before .before .served .result) (c .before .before .served .ensures) in
-    (few .0, shifts-fit (s .args .t1) (now (s .args .events)) (now (s .args .out)) _ _ (at .inv) (c .before .before .before .before .before .before .before .before .before .before .before .before .before .before .before .before .before .loop2-test .taken) (cut (c .before .before .before .before .before .before .before .before .before .before .before .before .before .before .before .before)) _ (few .1))
+    (few .0, shifts-fit (s .args .t1) (now (s .args .events)) (now (s .args .out)) _ _ (at .inv) (c .before .before .before .before .before .before .before .before .before .before .before .before .before .before .before .before .before .before .loop2-test .taken) (cut (c .before .before .before .before .before .before .before .before .before .before .before .before .before .before .before .before .before)) _ (few .1))
 
 quiet-requires : tie.Need-quiet-requires Inv-loop μ-loop Inv-loop2 μ-loop2
-quiet-requires c κs = let at = c .before .before .before .before .before .before .before .before .before .before .before .before .before .before .before .before .before .before .before .before .before .loop2 in served-ranged (at .self) _ (at .inv .ahead .valid) (c .before .before .before .before .before .served .result) (c .before .before .before .before .before .served .ensures)
+quiet-requires c κs = let at = c .before .before .before .before .before .before .before .before .before .before .before .before .before .before .before .before .before .before .before .before .before .before .loop2 in served-ranged (at .self) _ (at .inv .ahead .valid) (c .before .before .before .before .before .served .result) (c .before .before .before .before .before .served .ensures)
 
 -- ---- the holds that are due are served, or none is
-caught : (c : tie.Joined2 Inv-loop μ-loop Inv-loop2 μ-loop2) → Caught (c .before .before .before .before .before .before .before .before .before .before .before .before .before .before .before .loop2 .self) (c .before .before .before .before .before .v .given .0 .0 .time) (c .before .before .before .before .before .before .before .before .before .before .before .before .before .before .before .loop2 .at) (c .before .before .before .before .before .before .before .before .before .before .before .before .before .before .before .loop2 .out) (c .if2 .self) (c .if2 .quiet) (c .if2 .at) (c .if2 .out)
+caught : (c : tie.Joined2 Inv-loop μ-loop Inv-loop2 μ-loop2) → Caught (c .before .before .before .before .before .before .before .before .before .before .before .before .before .before .before .before .loop2 .self) (c .before .before .before .before .before .v .given .0 .0 .time) (c .before .before .before .before .before .before .before .before .before .before .before .before .before .before .before .before .loop2 .at) (c .before .before .before .before .before .before .before .before .before .before .before .before .before .before .before .before .loop2 .out) (c .if2 .self) (c .if2 .quiet) (c .if2 .at) (c .if2 .out)
 caught c =
-    let at = c .before .before .before .before .before .before .before .before .before .before .before .before .before .before .before .loop2 in
+    let at = c .before .before .before .before .before .before .before .before .before .before .before .before .before .before .before .before .loop2 in
     ⊎-elim
     (λ w. caught-served (at .self) _ (at .at) (at .out) (w .1 .result) (w .1 .ensures) (w .8 ∙ w .4 .ensures .1) (w .9) (w .10 ∙ w .7 .ensures) (w .11 ∙ w .4 .ensures .0))
     (λ w. caught-none (at .self) _ (at .at) (at .out) (at .quiet) (at .inv .ahead .valid) (at .inv .none-due) (w .0 .left) (w .1) (w .2) (w .3) (w .4)) (c .if2 .came)
 
 until-requires : tie.Need-until-requires Inv-loop μ-loop Inv-loop2 μ-loop2
 until-requires c κs =
-    let s = c .before .before .before .before .before .before .before .before .before .before .before .before .before .before .before .before .before .before .before .before .before .before in
-    turn-waits (s .args .t1) (now (s .args .events)) (now (s .args .out)) _ _ (c .before .before .before .before .before .before .before .before .before .before .before .before .before .before .before .before .loop2 .inv) (c .before .before .before .before .before .before .before .before .before .before .before .before .before .before .before .loop2-test .taken) (cut (c .before .before .before .before .before .before .before .before .before .before .before .before .before .before)) _ (takes (c .before .before .before .before)) (caught (c .before))
+    let s = c .before .before .before .before .before .before .before .before .before .before .before .before .before .before .before .before .before .before .before .before .before .before .before in
+    turn-waits (s .args .t1) (now (s .args .events)) (now (s .args .out)) _ _ (c .before .before .before .before .before .before .before .before .before .before .before .before .before .before .before .before .before .loop2 .inv) (c .before .before .before .before .before .before .before .before .before .before .before .before .before .before .before .before .loop2-test .taken) (cut (c .before .before .before .before .before .before .before .before .before .before .before .before .before .before .before)) _ (takes (c .before .before .before .before)) (caught (c .before))
 
 enum-told : tie.Need-enum-told Inv-loop μ-loop Inv-loop2 μ-loop2
 enum-told c = search needs
@@ -175,12 +192,12 @@ enum-known-change c = search needs
 
 -- ---- the line of a quote
 changes : (c : tie.After-known-told3 Inv-loop μ-loop Inv-loop2 μ-loop2)
-    → Changes (view (c .before .before .before .before .before .before .before .before .before .before .before .before .before .before .before .before .before .before .before .before .loop2 .self)) (read (take (c .before .before .before .before .before .before .before .before .before .before .before .before .before .before .before .before .before .before .cut .result - c .before .before .before .before .before .before .before .before .before .before .before .before .before .before .before .before .before .before .before .before .loop2 .from) (drop (c .before .before .before .before .before .before .before .before .before .before .before .before .before .before .before .before .before .before .before .before .loop2 .from) (now (c .before .before .before .before .before .before .before .before .before .before .before .before .before .before .before .before .before .before .before .before .before .before .before .before .before .before .args .events))))) (Change.Quote (c .before .change .given .0 .0))
-changes c = subst (Changes (view (c .before .before .before .before .before .before .before .before .before .before .before .before .before .before .before .before .before .before .before .before .loop2 .self)) (read (take (c .before .before .before .before .before .before .before .before .before .before .before .before .before .before .before .before .before .before .cut .result - c .before .before .before .before .before .before .before .before .before .before .before .before .before .before .before .before .before .before .before .before .loop2 .from) (drop (c .before .before .before .before .before .before .before .before .before .before .before .before .before .before .before .before .before .before .before .before .loop2 .from) (now (c .before .before .before .before .before .before .before .before .before .before .before .before .before .before .before .before .before .before .before .before .before .before .before .before .before .before .args .events)))))) (c .before .change .given .1) (takes (c .before .before .before .before .before .before .before .before) .changes)
+    → Changes (view (c .before .before .before .before .before .before .before .before .before .before .before .before .before .before .before .before .before .before .before .before .before .loop2 .self)) (read (take (c .before .before .before .before .before .before .before .before .before .before .before .before .before .before .before .before .before .before .before .cut .result - c .before .before .before .before .before .before .before .before .before .before .before .before .before .before .before .before .before .before .before .before .before .loop2 .from) (drop (c .before .before .before .before .before .before .before .before .before .before .before .before .before .before .before .before .before .before .before .before .before .loop2 .from) (now (c .before .before .before .before .before .before .before .before .before .before .before .before .before .before .before .before .before .before .before .before .before .before .before .before .before .before .before .args .events))))) (Change.Quote (c .before .change .given .0 .0))
+changes c = subst (Changes (view (c .before .before .before .before .before .before .before .before .before .before .before .before .before .before .before .before .before .before .before .before .before .loop2 .self)) (read (take (c .before .before .before .before .before .before .before .before .before .before .before .before .before .before .before .before .before .before .before .cut .result - c .before .before .before .before .before .before .before .before .before .before .before .before .before .before .before .before .before .before .before .before .before .loop2 .from) (drop (c .before .before .before .before .before .before .before .before .before .before .before .before .before .before .before .before .before .before .before .before .before .loop2 .from) (now (c .before .before .before .before .before .before .before .before .before .before .before .before .before .before .before .before .before .before .before .before .before .before .before .before .before .before .before .args .events)))))) (c .before .change .given .1) (takes (c .before .before .before .before .before .before .before .before) .changes)
 
 below : (c : tie.After-known-told3 Inv-loop μ-loop Inv-loop2 μ-loop2) → c .before .change .given .0 .0 .place < 32
 below c =
-    let s = c .before .before .before .before .before .before .before .before .before .before .before .before .before .before .before .before .before .before .before .before .loop2 in
+    let s = c .before .before .before .before .before .before .before .before .before .before .before .before .before .before .before .before .before .before .before .before .before .loop2 in
     let p = c .before .change .given .0 .0 in
     omega (arith, named-below (p .quote .id) (view (s .self) .lines) (p .place) (changes c .1), view-length (s .inv .ahead .valid), s .inv .ahead .valid .few)
 
@@ -192,7 +209,7 @@ element-copy-out-l-2 c = below (c .before .before)
 
 quoted-line-requires : tie.Need-quoted-line-requires Inv-loop μ-loop Inv-loop2 μ-loop2
 quoted-line-requires c κs =
-    let s = c .before .before .before .before .before .before .before .before .before .before .before .before .before .before .before .before .before .before .before .before .before .before .before .loop2 in
+    let s = c .before .before .before .before .before .before .before .before .before .before .before .before .before .before .before .before .before .before .before .before .before .before .before .before .loop2 in
     let q = c .before .before .before .before .change .given .0 .0 in
     let o = changes (c .before .before .before) in
     quote-asks (s .self) (c .before .before .before .before .before .before .before .before .before .before .before .before .before .v .given .0 .0 .time) (q .quote) (q .place) _ (s .inv .ahead .valid) (o .1) (quote-in _ (q .quote) (o .0)) (caught (c .before .before .before .before .before .before .before .before) .served)
@@ -204,13 +221,13 @@ element-set-from-m : tie.Need-element-set-from-m Inv-loop μ-loop Inv-loop2 μ-l
 element-set-from-m c = below (c .before .before .before .before)
 
 loop2-less-2 : tie.Need-loop2-less-2 Inv-loop μ-loop Inv-loop2 μ-loop2
-loop2-less-2 c = let k = cut (c .before .before .before .before .before .before .before .before .before .before .before .before .before .before .before .before) in omega (arith, k .on, k .inside)
+loop2-less-2 c = let k = cut (c .before .before .before .before .before .before .before .before .before .before .before .before .before .before .before .before .before) in omega (arith, k .on, k .inside)
 
 loop2-again-2 : tie.Need-loop2-again-2 Inv-loop μ-loop Inv-loop2 μ-loop2
 loop2-again-2 c =
-    let s = c .before .before .before .before .before .before .before .before .before .before .before .before .before .before .before .before .before .before .before .before .before .before .before .before in
+    let s = c .before .before .before .before .before .before .before .before .before .before .before .before .before .before .before .before .before .before .before .before .before .before .before .before .before in
     let k = caught (c .before .before .before) in
-    let then = turn-taken (s .args .t1) (now (s .args .events)) (now (s .args .out)) _ _ (c .before .before .before .before .before .before .before .before .before .before .before .before .before .before .before .before .before .before .loop2 .inv) (c .before .before .before .before .before .before .before .before .before .before .before .before .before .before .before .before .before .loop2-test .taken) (cut (c .before .before .before .before .before .before .before .before .before .before .before .before .before .before .before .before)) _ (takes (c .before .before .before .before .before .before)) k in
+    let then = turn-taken (s .args .t1) (now (s .args .events)) (now (s .args .out)) _ _ (c .before .before .before .before .before .before .before .before .before .before .before .before .before .before .before .before .before .before .before .loop2 .inv) (c .before .before .before .before .before .before .before .before .before .before .before .before .before .before .before .before .before .before .loop2-test .taken) (cut (c .before .before .before .before .before .before .before .before .before .before .before .before .before .before .before .before .before)) _ (takes (c .before .before .before .before .before .before)) k in
     let later = c .before .until .ensures in
     ⊎-elim (λ w. then Change.Nothing (w .1 .given .1) (c .match2 .self) (w .2) _ later)
     (λ w. then (Change.Quote (w .1 .given .0 .0)) (w .1 .given .1) (c .match2 .self) (w .7 ∙ ap (quoted-in (c .before .before .before .if2 .self) (w .1 .given .0 .0 .place)) (w .6 .ensures)) _ later)
@@ -247,6 +264,9 @@ feed-spec =
     element-copy-out-l
     mul-ids
     array-write-ids
+    cast-slot
+    cast-guesses
+    array-write-guesses
     add-i
     loop-less
     loop-again
@@ -256,6 +276,8 @@ feed-spec =
     part-read-start
     part-read-end
     read-requires
+    slot-requires
+    array-read-guess
     array-share-prefix-ids
     slice-aggregate-screen
     screen-requires
