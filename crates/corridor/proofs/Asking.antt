@@ -1,19 +1,13 @@
--- What the questions answer of the line at an id's place, and what its numbers allow. Assumes nothing.
+-- What the questions answer of the line at an id's place. Assumes nothing.
 use mathlib.Core.Path.{_≡_}
 use mathlib.Core.Bool.{false}
 use Prim.Native.Nat.{ℕ}
-use native.Mathlib.Omega.{arith}
 use lib.ListN.{getD}
-use Rattle.numbers.specs.Ranges.{Within}
-use Rattle.numbers.proofs.Ranges.{within-more}
 use Rattle.method.specs.Types.{blank}
 use Rattle.method.specs.Opening.{known}
 use Rattle.method.specs.Event.{limits, placed, place}
 use Rattle.method.specs.Report.{line-report, report}
-use Rattle.method.specs.Ranges.{Room}
-use Rattle.method.proofs.Rooms.{span-within}
-use Rattle.line.specs.Asks.{Drawn}
-use Rattle.corridor.specs.Names.{Steps, Line, EventReason, LimitsAnswer, PlaceAnswer, ReportAnswer}
+use Rattle.corridor.specs.Names.{Steps, EventReason, LimitsAnswer, PlaceAnswer, ReportAnswer}
 use Rattle.corridor.specs.declared.Session.{Session}
 use Rattle.corridor.specs.View.{view, Valid}
 use Rattle.corridor.proofs.Named.{Named, named-known, walk-line}
@@ -45,20 +39,3 @@ module _ (s : Session) (id : ℕ) (h : known id (view s .lines) ≡ false) where
   pub report-unmet : ReportAnswer.Refused EventReason.UnknownId ≡ report id (view s)
   unfolding report
   report-unmet = rw h
-
--- ---- what a line's bounds ask
-module _ {left : ℕ} {l : Line} (r : Room left l) where
-  pub room-centre : Within 900_000_000 (l .market .centre .0)
-  room-centre = within-more (r .market .centre) (omega arith)
-
-  pub room-half1 : Within 900_000_000 (l .market .half1 .0)
-  room-half1 = within-more (span-within (r .market .half1)) (omega arith)
-
-  pub room-half2 : Within 900_000_000 (l .market .half2 .0)
-  room-half2 = within-more (span-within (r .market .half2)) (omega arith)
-
-  pub room-half3 : Within 900_000_000 (l .market .half3 .0)
-  room-half3 = within-more (span-within (r .market .half3)) (omega arith)
-
-  pub room-drawn : Drawn (l .terms) (l .market)
-  room-drawn = record { factors = r .terms .factors; centre = room-centre; half1 = room-half1 }

@@ -15,7 +15,6 @@ pub mod closing;
 pub mod event;
 pub mod feed;
 pub mod questions;
-pub mod report;
 pub mod serving;
 
 // The table's lines stand in the first `count` places, in its order. `left` is how many shifts may still be made.

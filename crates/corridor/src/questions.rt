@@ -1,28 +1,16 @@
-// Questions on one line: its limits, and the place of an order price. They know only refusal 13, serve no hold and know no time. Each
-// walks the lines by itself, since a session is too large to be handed to a search.
+// Questions on one line: its limits, the place of an order price, and all that stands on it. They know only refusal 13, serve no hold and
+// know no time. Each walks the lines by itself, since a session is too large to be handed to a search.
 
 ghost use mathlib.Core.Path.{_≡_};
-ghost use Rattle.method.specs.Event.{limits, placed, place};
+ghost use Rattle.method.specs.Event.{limits, place};
+ghost use Rattle.method.specs.Report.{report};
 ghost use Rattle.corridor.specs.View.{view, Valid};
 use crate::Session;
 use method::EventReason;
-use method::Limits;
 use method::LimitsAnswer;
 use method::PlaceAnswer;
+use method::ReportAnswer;
 use numbers::Steps;
-
-// Both limits count as inside.
-fn placed(k: Limits, price: Steps) -> PlaceAnswer
-    ensures { λ r. ⌜ r ≡ placed k price ⌝ }
-{
-    if price.0 < k.lower.0 {
-        return PlaceAnswer::Below;
-    }
-    if k.upper.0 < price.0 {
-        return PlaceAnswer::Above;
-    }
-    PlaceAnswer::Inside
-}
 
 impl Session {
     // The limits of a contract.
@@ -56,10 +44,30 @@ impl Session {
             let t = l.terms;
             if t.id == id {
                 let k = l.limits;
-                return placed(k, price);
+                return report::placed(k, price);
             }
             i = i + 1;
         }
         PlaceAnswer::Refused(EventReason::UnknownId)
+    }
+
+    // All that stands on a contract's line.
+    pub fn report(self, id: u32) -> ReportAnswer
+        requires { ⌜ Valid self ⌝ }
+        ensures { λ r. ⌜ r ≡ report id (view self) ⌝ }
+    {
+        let n = self.count;
+        let mut i: usize = 0;
+        while i < n {
+            let l = self.lines[i];
+            let t = l.terms;
+            if t.id == id {
+                let wait = self.hold;
+                let clock = self.clock;
+                return ReportAnswer::Standing(report::line_report(wait, self.left, clock, l));
+            }
+            i = i + 1;
+        }
+        ReportAnswer::Refused(EventReason::UnknownId)
     }
 }

@@ -23,10 +23,10 @@ impl Session {
         let n = self.count;
         let near = self.near;
         let left = self.left - 1;
-        for i in 0..n {
-            let l = self.lines[i];
+        for place in 0..n {
+            let l = self.lines[place];
             let m = holds::shift::shift_line(near, left, side, now, l);
-            self.lines[i] = m;
+            self.lines[place] = m;
         }
         self.left = left;
         self

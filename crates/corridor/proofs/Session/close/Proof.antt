@@ -16,7 +16,7 @@ use Rattle.rows.proofs.Buffer.{nothing-written, row-on, long-on}
 use Rattle.corridor.specs.Closing.{closed, closed-into}
 use Rattle.corridor.proofs.Views.{ranged}
 use Rattle.corridor.proofs.Rows.{room-at}
-use Rattle.corridor.proofs.Asking.{room-drawn}
+use Rattle.report.proofs.Rooms.{room-drawn}
 use Rattle.corridor.proofs.Session.close.Statement.{statement}
 use Rattle.corridor.proofs.Session.close.Tie as tie
 

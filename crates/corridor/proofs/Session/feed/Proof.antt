@@ -128,7 +128,9 @@ enum-known-why : tie.Need-enum-known-why Inv-loop μ-loop Inv-loop2 μ-loop2
 enum-known-why c = search needs
 
 write-requires : tie.Need-write-requires Inv-loop μ-loop Inv-loop2 μ-loop2
-write-requires c κs = row-fits (c .before .before .before .before .before .before .before .before .before .before .before .before .before .before .before .before .before .before .before .args .t1) (now (c .before .before .before .before .before .before .before .before .before .before .before .before .before .before .before .before .before .before .before .args .events)) (now (c .before .before .before .before .before .before .before .before .before .before .before .before .before .before .before .before .before .before .before .args .out)) _ _ (c .before .before .before .before .before .before .before .before .before .before .before .before .before .loop2 .inv) (c .before .before .before .before .before .before .before .before .before .before .before .before .loop2-test .taken) (cut (c .before .before .before .before .before .before .before .before .before .before .before))
+write-requires c κs =
+    let s = c .before .before .before .before .before .before .before .before .before .before .before .before .before .before .before .before .before .before .before in
+    omega (arith, row-fits (s .args .t1) (now (s .args .events)) (now (s .args .out)) _ _ (c .before .before .before .before .before .before .before .before .before .before .before .before .before .loop2 .inv) (c .before .before .before .before .before .before .before .before .before .before .before .before .loop2-test .taken) (cut (c .before .before .before .before .before .before .before .before .before .before .before)))
 
 add-at : tie.Need-add-at Inv-loop μ-loop Inv-loop2 μ-loop2
 add-at c =

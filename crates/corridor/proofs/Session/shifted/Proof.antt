@@ -14,10 +14,10 @@ use Rattle.corridor.proofs.Session.shifted.Statement.{statement}
 use Rattle.corridor.proofs.Session.shifted.Tie as tie
 
 abbrev Inv-loop : tie.InvT-loop
-Inv-loop side now self₀ n near left i₀ self i = (i ≤ n) × (self ≡ with-rows self₀ (changed (shift-line near left side now) i (self₀ .lines)))
+Inv-loop side now self₀ n near left place₀ self place = (place ≤ n) × (self ≡ with-rows self₀ (changed (shift-line near left side now) place (self₀ .lines)))
 
 abbrev μ-loop : tie.MeasureT-loop
-μ-loop side now self₀ n near left i₀ self i = n - i
+μ-loop side now self₀ n near left place₀ self place = n - place
 
 sub-left : tie.Need-sub-left Inv-loop μ-loop
 sub-left c = omega arith
@@ -36,7 +36,7 @@ shift-line-requires : tie.Need-shift-line-requires Inv-loop μ-loop
 shift-line-requires c κs =
     let v = c .before .before .before .before .pre .0 in
     let s = c .before .before .before .before .args .t1 in
-    let i = c .before .before .loop .i in
+    let i = c .before .before .loop .place in
     let one-more : s .left ≡ suc (s .left - 1) = omega arith in
     let r : Room (suc (s .left - 1)) (getD (s .lines) i blank) = subst (λ (k : ℕ). Room k (getD (s .lines) i blank)) one-more (room-at i v (omega arith)) in
     rw (c .before .before .loop .inv .1, changed-at) (room-shifts (s .near) (omega (arith, v .sane .left)) (v .sane .near .most) r)
@@ -47,8 +47,8 @@ mul-m c = search needs
 element-set-from-m : tie.Need-element-set-from-m Inv-loop μ-loop
 element-set-from-m c = search needs
 
-add-i : tie.Need-add-i Inv-loop μ-loop
-add-i c = search needs
+add-place : tie.Need-add-place Inv-loop μ-loop
+add-place c = search needs
 
 loop-less : tie.Need-loop-less Inv-loop μ-loop
 loop-less c = search needs
@@ -59,7 +59,7 @@ loop-again c = let v = c .before .before .before .before .before .pre .0 in (ome
 returns : tie.Need-returns Inv-loop μ-loop
 returns c =
     let s = c .before .before .before .args .t1 in
-    let all : c .before .loop .i ≡ s .count = omega arith in
+    let all : c .before .loop .place ≡ s .count = omega arith in
     rw (c .before .loop .inv .1, all) (all-shifted _ _ s (c .before .before .before .pre .0))
 
 pub shifted-spec : {M : Type 1} → statement M
@@ -75,7 +75,7 @@ shifted-spec =
     shift-line-requires
     mul-m
     element-set-from-m
-    add-i
+    add-place
     loop-less
     loop-again
     returns)

@@ -1,9 +1,9 @@
--- `corridor::closing::closing_row` meets its contract. Assumes nothing.
+-- `report::closing_row` meets its contract. Assumes nothing.
 use borrow.Author.Needs.{needs}
 use Rattle.method.specs.Program.{closing-row}
 use Rattle.method.specs.Report.{interest-bounds}
-use Rattle.corridor.proofs.closing.closing_row.Statement.{statement}
-use Rattle.corridor.proofs.closing.closing_row.Tie as tie
+use Rattle.report.proofs.closing_row.Statement.{statement}
+use Rattle.report.proofs.closing_row.Tie as tie
 
 interest-bounds-requires : tie.Need-interest-bounds-requires
 interest-bounds-requires c κs = search needs

@@ -1,8 +1,8 @@
--- `corridor::report::interest_bounds` meets its contract. Assumes nothing.
+-- `report::interest_bounds` meets its contract. Assumes nothing.
 use borrow.Author.Needs.{needs}
 use Rattle.method.specs.Report.{interest-bounds}
-use Rattle.corridor.proofs.report.interest_bounds.Statement.{statement}
-use Rattle.corridor.proofs.report.interest_bounds.Tie as tie
+use Rattle.report.proofs.interest_bounds.Statement.{statement}
+use Rattle.report.proofs.interest_bounds.Tie as tie
 
 bound-requires : tie.Need-bound-requires
 bound-requires c κs = search needs

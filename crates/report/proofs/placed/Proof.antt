@@ -1,12 +1,12 @@
--- `corridor::questions::placed` meets its contract. Assumes nothing.
+-- `report::placed` meets its contract. Assumes nothing.
 use borrow.Author.Needs.{needs}
 use mathlib.Core.Path.{_≡_}
 use mathlib.Core.Bool.{true, false}
 use lib.Signed.{ltZ}
 use Rattle.numbers.proofs.Machine.{tests}
 use Rattle.method.specs.Event.{placed}
-use Rattle.corridor.proofs.questions.placed.Statement.{statement}
-use Rattle.corridor.proofs.questions.placed.Tie as tie
+use Rattle.report.proofs.placed.Statement.{statement}
+use Rattle.report.proofs.placed.Tie as tie
 
 under : (c : tie.Then1) → ltZ (c .before .before .before .before .before .args .price .0) (c .before .before .before .before .before .args .k .lower .0) ≡ true
 under c = search (needs, tests)

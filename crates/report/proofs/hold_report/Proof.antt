@@ -1,10 +1,10 @@
--- `corridor::report::hold_report` meets its contract. Assumes nothing.
+-- `report::hold_report` meets its contract. Assumes nothing.
 use borrow.Author.Needs.{needs}
 use native.Mathlib.Omega.{arith}
 use Rattle.method.specs.Report.{hold-report}
 use Rattle.holds.proofs.Finding.{since-in}
-use Rattle.corridor.proofs.report.hold_report.Statement.{statement}
-use Rattle.corridor.proofs.report.hold_report.Tie as tie
+use Rattle.report.proofs.hold_report.Statement.{statement}
+use Rattle.report.proofs.hold_report.Tie as tie
 
 enum-told : tie.Need-enum-told
 enum-told c = search needs

@@ -1,8 +1,8 @@
--- `corridor::report::market_bounds` meets its contract. Assumes nothing.
+-- `report::market_bounds` meets its contract. Assumes nothing.
 use borrow.Author.Needs.{needs}
 use Rattle.method.specs.Report.{market-bounds}
-use Rattle.corridor.proofs.report.market_bounds.Statement.{statement}
-use Rattle.corridor.proofs.report.market_bounds.Tie as tie
+use Rattle.report.proofs.market_bounds.Statement.{statement}
+use Rattle.report.proofs.market_bounds.Tie as tie
 
 market-bound-requires : tie.Need-market-bound-requires
 market-bound-requires c κs = search needs

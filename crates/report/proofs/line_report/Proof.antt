@@ -1,8 +1,8 @@
--- `corridor::report::line_report` meets its contract. Assumes nothing.
+-- `report::line_report` meets its contract. Assumes nothing.
 use Rattle.method.specs.Report.{line-report}
-use Rattle.corridor.proofs.Asking.{room-centre, room-half1, room-half2, room-half3, room-drawn}
-use Rattle.corridor.proofs.report.line_report.Statement.{statement}
-use Rattle.corridor.proofs.report.line_report.Tie as tie
+use Rattle.report.proofs.Rooms.{room-centre, room-half1, room-half2, room-half3, room-drawn}
+use Rattle.report.proofs.line_report.Statement.{statement}
+use Rattle.report.proofs.line_report.Tie as tie
 
 interest-bounds-requires : tie.Need-interest-bounds-requires
 interest-bounds-requires c κs = room-drawn (c .before .before .before .pre .1)

@@ -1,24 +1,39 @@
-// All that a gate or an operator asks of one line, in one answer: a question like those of `questions`.
+// What is told of one line: the place of an order price, all that stands on it, and its closing row.
 
 ghost use mathlib.Core.Path.{_≡_};
 ghost use Prim.Native.Nat.{_≤_};
 ghost use Rattle.numbers.specs.Ranges.{Within};
-ghost use Rattle.method.specs.Report.{market-bounds, interest-bounds, hold-report, line-report, report};
+ghost use Rattle.method.specs.Event.{placed};
+ghost use Rattle.method.specs.Report.{market-bounds, interest-bounds, hold-report, line-report};
+ghost use Rattle.method.specs.Program.{closing-row};
 ghost use Rattle.method.specs.Ranges.{HoldIn, Room};
 ghost use Rattle.line.specs.Asks.{Drawn};
-ghost use Rattle.corridor.specs.View.{view, Valid};
-use crate::Session;
 use method::BothBounds;
-use method::EventReason;
+use method::Closing;
 use method::Hold;
 use method::HoldReport;
 use method::HoldTimes;
+use method::Limits;
 use method::Line;
+use method::PlaceAnswer;
 use method::Report;
-use method::ReportAnswer;
+use method::Row;
 use method::Side;
 use numbers::Seconds;
 use numbers::Steps;
+
+// Both limits count as inside.
+pub fn placed(k: Limits, price: Steps) -> PlaceAnswer
+    ensures { λ r. ⌜ r ≡ placed k price ⌝ }
+{
+    if price.0 < k.lower.0 {
+        return PlaceAnswer::Below;
+    }
+    if k.upper.0 < price.0 {
+        return PlaceAnswer::Above;
+    }
+    PlaceAnswer::Inside
+}
 
 fn market_bounds(centre: Steps, half: Steps) -> BothBounds
     requires { ⌜ Within 900_000_000 (centre .0) × Within 900_000_000 (half .0) ⌝ }
@@ -32,7 +47,7 @@ fn market_bounds(centre: Steps, half: Steps) -> BothBounds
     }
 }
 
-pub(crate) fn interest_bounds(l: Line) -> BothBounds
+fn interest_bounds(l: Line) -> BothBounds
     requires { ⌜ Drawn (l .terms) (l .market) ⌝ }
     ensures { λ r. ⌜ r ≡ interest-bounds l ⌝ }
 {
@@ -59,7 +74,8 @@ fn hold_report(wait: Seconds, h: Hold) -> HoldReport
     }
 }
 
-fn line_report(wait: Seconds, left: u32, clock: Seconds, l: Line) -> Report
+// All that a gate or an operator asks of a line, with the session's shifts left and its clock.
+pub fn line_report(wait: Seconds, left: u32, clock: Seconds, l: Line) -> Report
     requires { ⌜ (wait .0 ≤ 3_600) × Room left l ⌝ }
     ensures { λ r. ⌜ r ≡ line-report wait left clock l ⌝ }
 {
@@ -94,24 +110,23 @@ fn line_report(wait: Seconds, left: u32, clock: Seconds, l: Line) -> Report
     }
 }
 
-impl Session {
-    // All that stands on a contract's line.
-    pub fn report(self, id: u32) -> ReportAnswer
-        requires { ⌜ Valid self ⌝ }
-        ensures { λ r. ⌜ r ≡ report id (view self) ⌝ }
-    {
-        let n = self.count;
-        let mut i: usize = 0;
-        while i < n {
-            let l = self.lines[i];
-            let t = l.terms;
-            if t.id == id {
-                let wait = self.hold;
-                let clock = self.clock;
-                return ReportAnswer::Standing(line_report(wait, self.left, clock, l));
-            }
-            i = i + 1;
-        }
-        ReportAnswer::Refused(EventReason::UnknownId)
-    }
+// What stands on the line at the end.
+pub fn closing_row(l: Line) -> Row
+    requires { ⌜ Drawn (l .terms) (l .market) ⌝ }
+    ensures { λ r. ⌜ r ≡ closing-row l ⌝ }
+{
+    let t = l.terms;
+    let k = l.limits;
+    let lower = k.lower;
+    let upper = k.upper;
+    let interest = interest_bounds(l);
+    let lowerbound = interest.lower;
+    let upperbound = interest.upper;
+    Row::Closed(Closing {
+        id: t.id,
+        lower: lower,
+        upper: upper,
+        lowerbound: lowerbound,
+        upperbound: upperbound,
+    })
 }
