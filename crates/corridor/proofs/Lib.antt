@@ -15,3 +15,4 @@ pub mod Cutting
 pub mod Feeding
 pub mod Turns
 pub mod Chunks
+pub mod Engine
