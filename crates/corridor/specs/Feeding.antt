@@ -1,23 +1,22 @@
 -- A buffer of events fed to a session, and their answers as rows of numbers in a lent buffer.
 use mathlib.Core.Bool.{cond}
 use mathlib.Core.List.{List}
-use Prim.Native.Nat.{ℕ, _+_, _-_, _*_, _/_}
+use Prim.Native.Nat.{ℕ, _+_, _-_}
 use lib.Dec.{ltb}
 use lib.IntN.{ℤ}
 use lib.ListN.{length}
 use Rattle.method.specs.Types.{State}
 use Rattle.method.specs.Search.{run, finally}
 use Rattle.method.specs.Program.{rows-of-all, events-of, numbers-of}
-use Rattle.rows.specs.Buffer.{written}
+use Rattle.rows.specs.Buffer.{written, room as rows-room}
 use Rattle.corridor.specs.declared.Session.{Session}
 use Rattle.corridor.specs.declared.RowsAnswer.{RowsAnswer}
 use Rattle.corridor.specs.declared.Fed.{Fed}
 use Rattle.corridor.specs.View.{view, put}
 
--- The numbers that the answers to so many bytes may come to: six a row, a row for each event, and one for each of the 16 shifts that a session
--- makes at most.
+-- the room for the answers to so many bytes: a session makes 16 shifts at most
 abbrev pub room : ℕ → ℕ
-room size = 6 * ((size + 19) / 20 + 16)
+room size = rows-room size 16
 
 -- where the event ends that begins at `from`: after 20 bytes, or with the buffer
 abbrev pub cut-at : ℕ → ℕ → ℕ

@@ -1,7 +1,4 @@
 -- A second before which no hold falls due, so that nothing has to be searched for before it.
-use mathlib.Core.Bool.{cond}
-use Prim.Native.Nat.{_+_}
-use lib.Dec.{ltb}
 use Rattle.method.specs.Types.{State, seconds}
 use Rattle.method.specs.Search.{earliest}
 use Rattle.corridor.specs.Names.{Seconds, Found, Nothing, At}
@@ -13,7 +10,3 @@ second-of (At x) = x .second
 
 abbrev pub quiet-until : State → Seconds
 quiet-until s = second-of (earliest (s .hold) 0 (s .lines) Nothing)
-
--- after an event of the time t, which may start a hold
-unfoldable pub until : Seconds → Seconds → Seconds → Seconds
-until quiet t wait = cond (ltb (t .0 + wait .0) (quiet .0)) (seconds (t .0 + wait .0)) quiet

@@ -1,11 +1,10 @@
 // A whole buffer of events: their answers as rows of numbers, in a buffer that the caller lends.
 
 ghost use mathlib.Core.Path.{_≡_};
-ghost use Prim.Native.Nat.{_≤_, _<_};
+ghost use Prim.Native.Nat.{_<_};
 ghost use lib.ListN.{length};
 ghost use Rattle.corridor.specs.View.{Valid};
-ghost use Rattle.corridor.specs.Quiet.{until};
-ghost use Rattle.corridor.specs.Feeding.{room, cut-at, fed, fed-into};
+ghost use Rattle.corridor.specs.Feeding.{cut-at, fed, fed-into};
 use crate::Fed;
 use crate::RowsAnswer;
 use crate::Session;
@@ -13,17 +12,6 @@ use method::Row;
 use numbers::Seconds;
 use verdict::Change;
 use verdict::Verdict;
-
-// An event gives a refusal's row or rows of shifts, and a session makes 16 shifts at most.
-fn room(size: usize) -> usize
-    ensures { λ r. ⌜ r ≡ room size ⌝ }
-{
-    let whole = size / 20;
-    if size % 20 == 0 {
-        return 6 * (whole + 16);
-    }
-    6 * (whole + 17)
-}
 
 // Where the event that begins at `from` ends: after 20 bytes, or with the buffer.
 fn cut(from: usize, size: usize) -> usize
@@ -36,18 +24,6 @@ fn cut(from: usize, size: usize) -> usize
     from + 20
 }
 
-// The nearer of two seconds: the one before which nothing is due so far, and the one at which a hold would fall due that starts at t.
-fn until(quiet: Seconds, t: Seconds, wait: Seconds) -> Seconds
-    requires { ⌜ (t .0 ≤ 172_800) × (wait .0 ≤ 3_600) ⌝ }
-    ensures { λ r. ⌜ r ≡ until quiet t wait ⌝ }
-{
-    let due = t.0 + wait.0;
-    if due < quiet.0 {
-        return Seconds(due);
-    }
-    quiet
-}
-
 impl Session {
     // Every event of the buffer in turn; a last one that is cut short is refused like any string that is no event. The room is worked out
     // first: where it is not there, nothing is done. The session stays in its place: it goes by value only where a hold may be due, which
@@ -58,7 +34,7 @@ impl Session {
         ensures { λ _. ⌜ now (out .exit) ≡ fed-into self (now (out .entry)) (now (events .entry)) ⌝ }
     {
         let size = events.len();
-        let needed = room(size);
+        let needed = rows::room(size, 16);
         if out.len() < needed {
             return Fed {
                 answer: RowsAnswer::NoRoom(needed),
@@ -101,7 +77,7 @@ impl Session {
                         quiet = self.quiet();
                     }
                     let wait = self.hold;
-                    quiet = until(quiet, t, wait);
+                    quiet = holds::due::until(quiet, t, wait);
                     let change = v.change;
                     match change {
                         Change::Nothing => {}

@@ -4,6 +4,7 @@ ghost use mathlib.Core.Path.{_≡_};
 ghost use Prim.Native.Nat.{_≤_};
 ghost use Rattle.method.specs.Search.{due-of, ahead, sooner, passed, in-time};
 ghost use Rattle.method.specs.Ranges.{HoldIn, HoldsIn};
+ghost use Rattle.holds.specs.Quiet.{until};
 use method::Due;
 use method::Found;
 use method::Hold;
@@ -98,4 +99,16 @@ pub fn in_time(t: Seconds, end: Seconds, left: u32, d: Found) -> Found
             d
         }
     }
+}
+
+// The nearer of two seconds: the one before which nothing is due so far, and the one at which a hold would fall due that starts at t.
+pub fn until(quiet: Seconds, t: Seconds, wait: Seconds) -> Seconds
+    requires { ⌜ (t .0 ≤ 172_800) × (wait .0 ≤ 3_600) ⌝ }
+    ensures { λ r. ⌜ r ≡ until quiet t wait ⌝ }
+{
+    let due = t.0 + wait.0;
+    if due < quiet.0 {
+        return Seconds(due);
+    }
+    quiet
 }

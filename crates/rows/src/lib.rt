@@ -7,7 +7,7 @@ ghost use lib.IntN.{pos};
 ghost use lib.ListN.{length, take};
 ghost use Rattle.method.specs.Refusals.{table-number, event-number};
 ghost use Rattle.method.specs.Program.{row-numbers, numbers-of, side-number};
-ghost use Rattle.rows.specs.Buffer.{written};
+ghost use Rattle.rows.specs.Buffer.{written, room};
 use method::EventReason;
 use method::Row;
 use method::ShiftLine;
@@ -111,4 +111,16 @@ pub fn write_shifts(out: &mut [i64], at: usize, shifts: [ShiftLine; 16], made: u
         i = i + 1;
     }
     at + 6 * made
+}
+
+// The room for the rows of so many bytes of events: a row for each event, and as many more.
+pub fn room(size: usize, more: usize) -> usize
+    requires { ⌜ more ≤ 100 ⌝ }
+    ensures { λ r. ⌜ r ≡ room size more ⌝ }
+{
+    let whole = size / 20;
+    if size % 20 == 0 {
+        return 6 * (whole + more);
+    }
+    6 * (whole + 1 + more)
 }

@@ -1,19 +1,18 @@
 -- A whole session in a lent buffer: the method's rows of a table and its events.
 use mathlib.Core.Bool.{cond}
 use mathlib.Core.List.{List}
-use Prim.Native.Nat.{ℕ, _+_, _*_, _/_}
+use Prim.Native.Nat.{ℕ}
 use lib.Dec.{ltb}
 use lib.IntN.{ℤ}
 use lib.ListN.{length}
 use Rattle.method.specs.Table.{opening}
 use Rattle.method.specs.Program.{events-of, rows-after, numbers-of}
-use Rattle.rows.specs.Buffer.{written}
+use Rattle.rows.specs.Buffer.{written, room as rows-room}
 use Rattle.corridor.specs.declared.RowsAnswer.{RowsAnswer}
 
--- The numbers that so many bytes of events may come to: six a row, a row for each event, for each of at most 16 shifts, and for each of at
--- most 32 contracts.
+-- the room for the rows of a whole session: 16 shifts and 32 contracts at most
 abbrev pub room : ℕ → ℕ
-room size = 6 * ((size + 19) / 20 + 48)
+room size = rows-room size 48
 
 -- all rows in numbers
 abbrev pub rows-told : List ℕ → List ℕ → List ℤ

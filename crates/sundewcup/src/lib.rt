@@ -2,21 +2,10 @@
 
 ghost use mathlib.Core.Path.{_≡_};
 ghost use lib.ListN.{length};
-ghost use Rattle.sundewcup.specs.Running.{room, number-in, ran, ran-into};
+ghost use Rattle.sundewcup.specs.Running.{number-in, ran, ran-into};
 use corridor::RowsAnswer;
 use method::Row;
 use method::TableAnswer;
-
-// Feed's room, and a row for each of at most 32 contracts.
-fn room(size: usize) -> usize
-    ensures { λ r. ⌜ r ≡ room size ⌝ }
-{
-    let whole = size / 20;
-    if size % 20 == 0 {
-        return 6 * (whole + 48);
-    }
-    6 * (whole + 49)
-}
 
 // How many numbers there are, or would have to fit.
 fn number_in(answer: RowsAnswer) -> usize
@@ -34,7 +23,7 @@ pub fn run(table: &[u8], events: &[u8], out: &mut [i64]) -> RowsAnswer
     ensures { λ r. ⌜ r ≡ ran (length (now (out .entry))) (now (table .entry)) (now (events .entry)) ⌝ }
     ensures { λ _. ⌜ now (out .exit) ≡ ran-into (now (out .entry)) (now (table .entry)) (now (events .entry)) ⌝ }
 {
-    let needed = room(events.len());
+    let needed = rows::room(events.len(), 48);
     if out.len() < needed {
         return RowsAnswer::NoRoom(needed);
     }

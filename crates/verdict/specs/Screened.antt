@@ -1,4 +1,4 @@
--- What becomes of an event, from the ids of the table, the session's end and its clock. `Says` (proofs/Saying) ties it to the method's verdict.
+-- What becomes of an event, from the ids of the table, the session's end and its clock. `says` (corridor/proofs/Saying) ties it to the method's verdict.
 use mathlib.Core.Bool.{cond}
 use mathlib.Core.List.{List, [], _∷_}
 use Prim.Native.Nat.{ℕ, suc, _%_}

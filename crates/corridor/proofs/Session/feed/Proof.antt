@@ -37,7 +37,7 @@ abbrev μ-loop2 : tie.MeasureT-loop2
 μ-loop2 events out₀ self₀ size needed n ids guesses quiet₀ at₀ from₀ out self quiet at from = size - from
 
 room-requires : tie.Need-room-requires Inv-loop μ-loop Inv-loop2 μ-loop2
-room-requires c κs = tt
+room-requires c κs = omega arith
 
 returns : tie.Need-returns Inv-loop μ-loop Inv-loop2 μ-loop2
 returns c =

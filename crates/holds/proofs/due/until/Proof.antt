@@ -1,9 +1,9 @@
--- `corridor::feed::until` meets its contract. Assumes nothing.
+-- `holds::due::until` meets its contract. Assumes nothing.
 use borrow.Author.Needs.{needs}
 use borrow.Author.Tests.{lt-ltb, le-ltb}
-use Rattle.corridor.specs.Quiet.{until}
-use Rattle.corridor.proofs.feed.until.Statement.{statement}
-use Rattle.corridor.proofs.feed.until.Tie as tie
+use Rattle.holds.specs.Quiet.{until}
+use Rattle.holds.proofs.due.until.Statement.{statement}
+use Rattle.holds.proofs.due.until.Tie as tie
 
 add-due : tie.Need-add-due
 add-due c = search needs
