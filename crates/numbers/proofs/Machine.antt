@@ -13,6 +13,7 @@ use mir.Val.{Fits, SFits, toZ, ofZ}
 use mir.Facts.{toZ-ofZ}
 use mir.ValLaws.{toZ-pos}
 use Rattle.numbers.specs.Tests.{same}
+use Rattle.numbers.proofs.Halves.{zarith}
 use Rattle.numbers.proofs.Tests.{lt-true, lt-false, le-true, le-false, same-true, same-false}
 
 -- a literal fits: `literal (pos 5) tt`
@@ -63,6 +64,12 @@ module _ {a b : ℤ} (fa : SFits w64 a) (fb : SFits w64 b) where
 
 -- `search (needs, tests)` proves a goal that speaks of `ltZ a b` where a branch tested a and b
 pub ruleset tests = (lt-yes, lt-no, le-yes, le-no)
+
+pub weaker : {a b : ℤ} → a <ℤ b → a ≤ℤ b
+weaker h = omega zarith
+
+-- `search (needs, orders)` proves the order that a branch tells of a and b, or the weaker one that follows from it
+pub ruleset orders = (lt-taken, lt-left, le-taken, le-left, weaker)
 
 pub same-bits : {a b : ℤ} → SFits w64 a → SFits w64 b → eqb (ofZ w64 a) (ofZ w64 b) ≡ same a b
 same-bits {a} {b} fa fb = go (same a b) (same-true a b) (same-false a b)
