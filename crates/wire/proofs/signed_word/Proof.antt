@@ -19,7 +19,7 @@ cast-result-2 : tie.Need-cast-result-2
 cast-result-2 c = search needs
 
 sub-result : tie.Need-sub-result
-sub-result c = taken-off (c .before .word .result) (c .if1 .left) (search needs)
+sub-result c = search (needs, taken-off)
 
 returns : tie.Need-returns
 returns c = low (c .before .word .result) (c .if1 .taken) ∙ ap signed (c .before .word .ensures)
