@@ -38,7 +38,7 @@ loop-again c =
     let inside : at .i < length (take (s .args .n) (s .args .t1)) = rw (length-take-le (s .args .n) (s .args .t1) (omega arith)) (omega arith) in (
       omega arith,
       passed-turn (take (s .args .n) (s .args .t1)) (s .args .days) (at .i) (at .inv .1) inside
-          (rw (getD-take (s .args .n) (s .args .t1) (at .i) no-key (omega arith)) (c .if2 .left)),
+          (rw (getD-take (s .args .n) (s .args .t1) (at .i) no-key (omega arith)) (omega (arith, c .if2 .left))),
     )
 
 returns : tie.Need-returns Inv-loop μ-loop
@@ -55,7 +55,7 @@ returns-2 c =
     let len : length (s .args .t1) ≡ 16 = search (full, s .good) in
     let inside : at .i < length (take (s .args .n) (s .args .t1)) = rw (length-take-le (s .args .n) (s .args .t1) (omega arith)) (omega arith) in
     passed-found (take (s .args .n) (s .args .t1)) (s .args .days) (at .i) (at .inv .1) inside
-    (rw (getD-take (s .args .n) (s .args .t1) (at .i) no-key (omega arith)) (c .if2 .taken))
+    (rw (getD-take (s .args .n) (s .args .t1) (at .i) no-key (omega arith)) (omega (arith, c .if2 .taken)))
 
 pub found-line-spec : {M : Type 1} → statement M
 found-line-spec =

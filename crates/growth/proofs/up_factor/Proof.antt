@@ -15,7 +15,7 @@ loop-holds : tie.Need-loop-holds Inv-loop μ-loop
 loop-holds c = summed-start (c .args .y .0)
 
 mul-term : tie.Need-mul-term Inv-loop μ-loop
-mul-term c = omega (arith, product (c .before .before .loop .inv) (c .before .loop-test .taken) (c .before .before .before .pre))
+mul-term c = omega (arith, product (c .before .before .loop .inv) (omega arith) (c .before .before .before .pre))
 
 add-term : tie.Need-add-term Inv-loop μ-loop
 add-term c = omega arith
@@ -27,7 +27,7 @@ div-term : tie.Need-div-term Inv-loop μ-loop
 div-term c = omega arith
 
 add-sum : tie.Need-add-sum Inv-loop μ-loop
-add-sum c = omega (arith, summed-turn (c .before .before .loop .inv) (c .before .loop-test .taken) (c .before .before .before .pre))
+add-sum c = omega (arith, summed-turn (c .before .before .loop .inv) (omega arith) (c .before .before .before .pre))
 
 add-k : tie.Need-add-k Inv-loop μ-loop
 add-k c = omega arith
@@ -36,10 +36,10 @@ loop-less : tie.Need-loop-less Inv-loop μ-loop
 loop-less c = omega arith
 
 loop-again : tie.Need-loop-again Inv-loop μ-loop
-loop-again c = summed-turn (c .before .before .loop .inv) (c .before .loop-test .taken) (c .before .before .before .pre)
+loop-again c = summed-turn (c .before .before .loop .inv) (omega arith) (c .before .before .before .pre)
 
 returns : tie.Need-returns Inv-loop μ-loop
-returns c = summed-end (c .before .loop .inv) (c .loop-test .left)
+returns c = summed-end (c .before .loop .inv) (omega arith)
 
 pub up-factor-spec : {M : Type 1} → statement M
 up-factor-spec =
