@@ -19,7 +19,9 @@ half-width-requires : tie.Need-half-width-requires
 half-width-requires c κs = search needs
 
 half-move-requires : tie.Need-half-move-requires
-half-move-requires c κs = (c .before .before .before .before .before .pre .1 .0, rw (c .half-width .ensures) (half-width-in (c .before .before .before .before .before .args .c) (c .before .before .before .before .before .args .c .rate1) (c .before .before .before .before .before .pre .0) (c .before .before .before .before .before .pre .0 .rate1)))
+half-move-requires c κs =
+    let s = c .before .before .before .before .before in
+    (s .pre .1 .0, rw (c .half-width .ensures) (half-width-in (s .args .c) _ (s .pre .0) (search needs)))
 
 factors-requires : tie.Need-factors-requires
 factors-requires c κs = search needs
