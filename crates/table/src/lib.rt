@@ -6,7 +6,7 @@ ghost use Prim.Native.Nat.{_+_, _*_, _≤_};
 ghost use lib.ListN.{length, take};
 ghost use Rattle.numbers.specs.Arrays.{padded};
 ghost use Rattle.method.specs.Opening.{id-good, open-line};
-ghost use Rattle.method.specs.Table.{header-of, key-at, contract-at, keys-at, bad-key, header-good, laid-out, key-good, contracts-start, contracts-at, open-lines, refused, opening};
+ghost use Rattle.method.specs.Table.{header-of, key-at, contract-at, keys-at, bad-key, header-good, laid-out, key-good, contracts-start, table-length, contracts-at, open-lines, refused, opening};
 ghost use Rattle.table.specs.Names.{no-key};
 ghost use Rattle.table.specs.Opened.{line-or-zero, opened-as};
 ghost use Rattle.table.specs.Asks.{Ready, Lined};
@@ -143,18 +143,24 @@ fn header_good(h: Header) -> bool
     numbers::in_range(1, 1000000, h.shift.0)
 }
 
-// Offsets and length as the counts say (the rest of refusal 1). The sums are of 64 bits, and fit whatever the counts are.
+// Where the table ends as the counts say. The sums are of 64 bits, and fit whatever the counts are.
+fn table_length(h: Header) -> usize
+    ensures { λ r. ⌜ r ≡ table-length h ⌝ }
+{
+    40 + 8 * (h.keys as usize) + 40 * (h.contracts as usize)
+}
+
+// Offsets and length as the counts say (the rest of refusal 1).
 fn laid_out(h: Header, size: usize) -> bool
     ensures { λ r. ⌜ r ≡ laid-out h size ⌝ }
 {
-    let start = 40 + 8 * (h.keys as usize);
     if h.keysat != 40 {
         return false;
     }
-    if (h.contractsat as usize) != start {
+    if (h.contractsat as usize) != 40 + 8 * (h.keys as usize) {
         return false;
     }
-    size == start + 40 * (h.contracts as usize)
+    size == table_length(h)
 }
 
 // A key in its range, and after the one before it (refusal 4).
@@ -321,6 +327,15 @@ fn open_lines(bytes: &[u8], h: Header, keys: [Key; 16]) -> Opened
         most: h.most,
         near: near,
     }
+}
+
+// Where the table ends that these bytes begin, as its counts say.
+pub fn ends_at(bytes: &[u8]) -> usize
+    requires { ⌜ 40 ≤ length (now bytes) ⌝ }
+    ensures { λ r. ⌜ r ≡ table-length (header-of (now (bytes .entry))) ⌝ }
+{
+    let h = header(bytes);
+    table_length(h)
 }
 
 // Opens a morning table. Any bytes of any length get an answer, and nothing is worked out from a count before it is checked.
