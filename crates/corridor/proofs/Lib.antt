@@ -16,3 +16,4 @@ pub mod Feeding
 pub mod Turns
 pub mod Chunks
 pub mod Engine
+pub mod Joined
