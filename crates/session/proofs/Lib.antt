@@ -1,0 +1,6 @@
+pub mod Signs
+pub mod Digits
+pub mod Taken
+pub mod Tables
+pub mod Answering
+pub mod Going

@@ -1,0 +1,111 @@
+// The events, chunk after chunk, and the closing lines.
+
+ghost use mathlib.Core.Path.{_≡_};
+ghost use Prim.Native.Nat.{_≤_};
+ghost use lib.ListN.{length};
+ghost use Rattle.rows.specs.Buffer.{written};
+ghost use Rattle.corridor.specs.View.{Valid};
+ghost use Rattle.corridor.specs.Feeding.{room, told};
+ghost use Rattle.session.specs.Chunks.{answered, Reached, closing-numbers};
+use corridor::RowsAnswer;
+use corridor::Session;
+
+// A buffer for 1,024 events: whole ones, so only the last chunk of an input can end in a cut event.
+fn chunk_room() -> [u8; 20480]
+    ensures { λ r. ⌜ 20480 ≡ length r ⌝ }
+{
+    [0; 20480]
+}
+
+// The numbers that the answers to a chunk may come to: six a row, a row for each event, and one for each of 16 shifts.
+fn row_room() -> [i64; 6240]
+    ensures { λ r. ⌜ 6240 ≡ length r ⌝ }
+{
+    [0; 6240]
+}
+
+// How many numbers the answers to a chunk have, and the session that it leaves.
+struct Told {
+    count: usize,
+    session: Session,
+}
+
+// What is said so far: the session, and how much text waits in its buffer.
+struct Said {
+    session: Session,
+    waiting: usize,
+}
+
+// A chunk's answers, for which the room is there.
+fn answered(s: Session, chunk: &[u8], numbers: &mut [i64]) -> Told
+    requires { ⌜ Valid s × (room (length (now chunk)) ≤ length (now numbers)) ⌝ }
+    ensures { λ r. ⌜ r ≡ answered s (now (chunk .entry)) ⌝ }
+    ensures { λ _. ⌜ now (numbers .exit) ≡ written (now (numbers .entry)) 0 (told s (now (chunk .entry))) ⌝ }
+{
+    let r = s.feed(chunk, numbers);
+    let session = r.session;
+    let answer = r.answer;
+    match answer {
+        RowsAnswer::NoRoom(_) => Told {
+            count: 0,
+            session: session,
+        },
+        RowsAnswer::Written(count) => Told {
+            count: count,
+            session: session,
+        },
+    }
+}
+
+// A proved loop has to end, and nothing says that the input does: the loop counts its turns down from a number that no run uses up.
+fn answer_events(first: Session, chunk: &mut [u8], numbers: &mut [i64], buffer: &mut [u8]) -> Said
+    requires { ⌜ Valid first ⌝ }
+    requires { ⌜ (length (now chunk) ≡ 20480) × (length (now numbers) ≡ 6240) × (length (now buffer) ≡ 65536) ⌝ }
+    ensures { λ r. ⌜ Reached first (r .session) × (r .waiting ≤ 65536) ⌝ }
+{
+    let mut s = first;
+    let mut waiting: usize = 0;
+    let mut turns = u64::MAX;
+    while turns > 0 {
+        let size = io::read_full(0, chunk);
+        let a = answered(s, &chunk[..size], numbers);
+        let count = a.count;
+        s = a.session;
+        waiting = crate::text::rows(&numbers[..count], buffer, waiting);
+        if size < 20480 {
+            break;
+        }
+        turns = turns - 1;
+    }
+    Said {
+        session: s,
+        waiting: waiting,
+    }
+}
+
+// The closing rows, for which the room is there; the answer is how many numbers they have.
+fn closed(s: Session, numbers: &mut [i64]) -> usize
+    requires { ⌜ Valid s × (192 ≤ length (now numbers)) ⌝ }
+    ensures { λ r. ⌜ r ≡ length (closing-numbers s) ⌝ }
+    ensures { λ _. ⌜ now (numbers .exit) ≡ written (now (numbers .entry)) 0 (closing-numbers s) ⌝ }
+{
+    let answer = s.close(numbers);
+    match answer {
+        RowsAnswer::NoRoom(_) => 0,
+        RowsAnswer::Written(count) => count,
+    }
+}
+
+// Answers all events, and then prints the closing lines.
+pub(crate) fn answer_all(first: Session)
+    requires { ⌜ Valid first ⌝ }
+{
+    let mut chunk = chunk_room();
+    let mut numbers = row_room();
+    let mut buffer = io::large_buffer();
+    let said = answer_events(first, &mut chunk, &mut numbers, &mut buffer);
+    let s = said.session;
+    let count = closed(s, &mut numbers);
+    let end = crate::text::rows(&numbers[..count], &mut buffer, said.waiting);
+    io::write_all(1, &buffer[..end]);
+}

@@ -1,0 +1,141 @@
+// Rows of numbers as lines of text, through a buffer that is written out when it is nearly full.
+
+ghost use mathlib.Core.Path.{_≡_};
+ghost use Prim.Native.Nat.{_+_, _≤_};
+ghost use lib.IntN.{natAbs};
+ghost use lib.ListN.{length};
+ghost use Rattle.io.specs.Counts.{Counts};
+
+// How far a number is from 0. `!n` is -(n + 1), and no number is too small for it.
+fn magnitude(n: i64) -> u64
+    ensures { λ r. ⌜ r ≡ natAbs n ⌝ }
+{
+    if n < 0 {
+        let below = !n;
+        return below as u64 + 1;
+    }
+    n as u64
+}
+
+// Copies digits into the buffer from `at` on.
+fn put_digits(buffer: &mut [u8], at: usize, digits: &[u8])
+    requires { ⌜ at + length (now digits) ≤ length (now buffer) ⌝ }
+{
+    let mut i: usize = 0;
+    while i < digits.len() {
+        buffer[at + i] = digits[i];
+        i = i + 1;
+    }
+}
+
+// A sign where it is needed. Each function here answers the place after what it puts.
+fn put_sign(buffer: &mut [u8], at: usize, n: i64) -> usize
+    requires { ⌜ at + 1 ≤ length (now buffer) ⌝ }
+    ensures { λ r. ⌜ r ≤ at + 1 ⌝ }
+{
+    if n < 0 {
+        buffer[at] = b'-';
+        return at + 1;
+    }
+    at
+}
+
+// A number in decimals, and the byte that parts it from what follows: 22 bytes at most.
+fn put(buffer: &mut [u8], at: usize, n: i64, after: u8) -> usize
+    requires { ⌜ at + 22 ≤ length (now buffer) ⌝ }
+    ensures { λ r. ⌜ r ≤ at + 22 ⌝ }
+{
+    let mut digits = [0u8; 20];
+    let count = io::decimal(magnitude(n), &mut digits);
+    let start = put_sign(buffer, at, n);
+    put_digits(buffer, start, &digits[..count]);
+    let end = start + count;
+    buffer[end] = after;
+    end + 1
+}
+
+// U or D, by the number of the side.
+fn side_letter(side: i64) -> u8 {
+    if side == 0 {
+        return b'U';
+    }
+    b'D'
+}
+
+// A letter and a space.
+fn put_letter(buffer: &mut [u8], at: usize, letter: u8) -> usize
+    requires { ⌜ at + 2 ≤ length (now buffer) ⌝ }
+    ensures { λ r. ⌜ r ≡ at + 2 ⌝ }
+{
+    buffer[at] = letter;
+    buffer[at + 1] = b' ';
+    at + 2
+}
+
+// One row, by its kind: a shift, a refused event, a refused table, a closing line. 110 bytes at most.
+fn line(row: [i64; 6], buffer: &mut [u8], at: usize) -> usize
+    requires { ⌜ at + 110 ≤ length (now buffer) ⌝ }
+    ensures { λ r. ⌜ r ≤ at + 110 ⌝ }
+{
+    let kind = row[0];
+    if kind == 1 {
+        let second = put(buffer, at, row[1], b' ');
+        let side = put_letter(buffer, second, side_letter(row[2]));
+        return put(buffer, side, row[3], b'\n');
+    }
+    if kind == 2 {
+        let letter = put_letter(buffer, at, b'R');
+        return put(buffer, letter, row[1], b'\n');
+    }
+    if kind == 3 {
+        let letter = put_letter(buffer, at, b'T');
+        let number = put(buffer, letter, row[1], b' ');
+        return put(buffer, number, row[2], b'\n');
+    }
+    let id = put(buffer, at, row[1], b' ');
+    let lower = put(buffer, id, row[2], b' ');
+    let upper = put(buffer, lower, row[3], b' ');
+    let lowerbound = put(buffer, upper, row[4], b' ');
+    put(buffer, lowerbound, row[5], b'\n')
+}
+
+// The row that begins at `from`.
+fn row_at(numbers: &[i64], from: usize) -> [i64; 6]
+    requires { ⌜ from + 6 ≤ length (now numbers) ⌝ }
+{
+    [
+        numbers[from],
+        numbers[from + 1],
+        numbers[from + 2],
+        numbers[from + 3],
+        numbers[from + 4],
+        numbers[from + 5],
+    ]
+}
+
+// Where the next line goes: what waits in the buffer is written out if that line may not find room.
+fn with_room(buffer: &[u8], waiting: usize) -> usize
+    requires { ⌜ (waiting ≤ length (now buffer)) × (110 ≤ length (now buffer)) ⌝ }
+    ensures { λ r. ⌜ r + 110 ≤ length (now (buffer .entry)) ⌝ }
+{
+    if buffer.len() - waiting < 110 {
+        io::write_all(1, &buffer[..waiting]);
+        return 0;
+    }
+    waiting
+}
+
+// All rows; the answer is how much text waits in the buffer then.
+pub(crate) fn rows(numbers: &[i64], buffer: &mut [u8], waiting: usize) -> usize
+    requires { ⌜ (waiting ≤ length (now buffer)) × (110 ≤ length (now buffer)) ⌝ }
+    ensures { λ r. ⌜ Counts r (now (buffer .exit)) ⌝ }
+{
+    let mut at = waiting;
+    let mut from: usize = 0;
+    while numbers.len() - from >= 6 {
+        let start = with_room(buffer, at);
+        at = line(row_at(numbers, from), buffer, start);
+        from = from + 6;
+    }
+    at
+}
