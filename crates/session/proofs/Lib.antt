@@ -1,5 +1,3 @@
-pub mod Signs
-pub mod Digits
 pub mod Taken
 pub mod Tables
 pub mod Answering

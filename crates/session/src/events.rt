@@ -71,7 +71,7 @@ fn answer_events(first: Session, chunk: &mut [u8], numbers: &mut [i64], buffer: 
         let a = answered(s, &chunk[..size], numbers);
         let count = a.count;
         s = a.session;
-        waiting = crate::text::rows(&numbers[..count], buffer, waiting);
+        waiting = crate::printing::rows(&numbers[..count], buffer, waiting);
         if size < 20480 {
             break;
         }
@@ -106,6 +106,6 @@ pub(crate) fn answer_all(first: Session)
     let said = answer_events(first, &mut chunk, &mut numbers, &mut buffer);
     let s = said.session;
     let count = closed(s, &mut numbers);
-    let end = crate::text::rows(&numbers[..count], &mut buffer, said.waiting);
+    let end = crate::printing::rows(&numbers[..count], &mut buffer, said.waiting);
     io::write_all(1, &buffer[..end]);
 }

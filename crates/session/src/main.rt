@@ -12,7 +12,7 @@ use method::Row;
 use method::TableAnswer;
 
 mod events;
-mod text;
+mod printing;
 
 // The longest table has 16 keys and 32 contracts. A function of its own keeps a buffer's elements out of the callers' goals.
 fn table_room() -> [u8; 1448]
@@ -52,7 +52,7 @@ fn read_table(room: &mut [u8]) -> usize
 fn print_refusal(row: Row) {
     let numbers = rows::row_numbers(row);
     let mut buffer = io::large_buffer();
-    let at = text::rows(&numbers, &mut buffer, 0);
+    let at = printing::rows(&numbers, &mut buffer, 0);
     io::write_all(1, &buffer[..at]);
 }
 

@@ -1,9 +1,9 @@
--- `session::text::put_letter` meets its contract. Assumes nothing.
+-- `text::put_letter` meets its contract. Assumes nothing.
 use borrow.Author.Needs.{needs}
 use native.Mathlib.Omega.{arith}
 use lib.ListN.{length-set}
-use Rattle.session.proofs.text.put_letter.Statement.{statement}
-use Rattle.session.proofs.text.put_letter.Tie as tie
+use Rattle.text.proofs.put_letter.Statement.{statement}
+use Rattle.text.proofs.put_letter.Tie as tie
 
 slice-write-buffer : tie.Need-slice-write-buffer
 slice-write-buffer c = search needs

@@ -1,10 +1,10 @@
--- `session::text::put` meets its contract. Assumes nothing.
+-- `text::put` meets its contract. Assumes nothing.
 use borrow.Author.Needs.{needs}
 use native.Mathlib.Omega.{arith}
 use lib.ListN.{length-set}
-use Rattle.session.proofs.Digits.{few-digits}
-use Rattle.session.proofs.text.put.Statement.{statement}
-use Rattle.session.proofs.text.put.Tie as tie
+use Rattle.text.proofs.Digits.{few-digits}
+use Rattle.text.proofs.put.Statement.{statement}
+use Rattle.text.proofs.put.Tie as tie
 
 magnitude-requires : tie.Need-magnitude-requires
 magnitude-requires c κs = search needs

@@ -1,10 +1,10 @@
--- `session::text::put_digits` meets its contract. Assumes nothing.
+-- `text::put_digits` meets its contract. Assumes nothing.
 use borrow.Author.Needs.{needs}
 use mathlib.Core.Path.{_≡_}
 use Prim.Native.Nat.{_≤_, _-_}
 use lib.ListN.{length}
-use Rattle.session.proofs.text.put_digits.Statement.{statement}
-use Rattle.session.proofs.text.put_digits.Tie as tie
+use Rattle.text.proofs.put_digits.Statement.{statement}
+use Rattle.text.proofs.put_digits.Tie as tie
 
 abbrev Inv-loop : tie.InvT-loop
 Inv-loop buffer₀ at digits i₀ buffer i = (i ≤ length digits) × (length buffer ≡ length buffer₀)

@@ -1,11 +1,11 @@
--- `session::text::with_room` meets its contract. Assumes nothing.
+-- `session::printing::with_room` meets its contract. Assumes nothing.
 use borrow.Author.Needs.{needs}
 use mathlib.Core.Path.{sym}
 use native.Mathlib.Omega.{arith}
 use denote.Ref.{now}
 use lib.Seq.{length-take-le}
-use Rattle.session.proofs.text.with_room.Statement.{statement}
-use Rattle.session.proofs.text.with_room.Tie as tie
+use Rattle.session.proofs.printing.with_room.Statement.{statement}
+use Rattle.session.proofs.printing.with_room.Tie as tie
 
 sub-if1 : tie.Need-sub-if1
 sub-if1 c = search needs

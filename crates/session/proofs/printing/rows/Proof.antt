@@ -1,11 +1,11 @@
--- `session::text::rows` meets its contract. Assumes nothing.
+-- `session::printing::rows` meets its contract. Assumes nothing.
 use borrow.Author.Needs.{needs}
 use mathlib.Core.Path.{_≡_}
 use Prim.Native.Nat.{_≤_, _-_}
 use lib.ListN.{length}
 use Rattle.session.proofs.Taken.{counts}
-use Rattle.session.proofs.text.rows.Statement.{statement}
-use Rattle.session.proofs.text.rows.Tie as tie
+use Rattle.session.proofs.printing.rows.Statement.{statement}
+use Rattle.session.proofs.printing.rows.Tie as tie
 
 abbrev Inv-loop : tie.InvT-loop
 Inv-loop numbers buffer₀ waiting at₀ from₀ buffer at from = (from ≤ length numbers) × (at ≤ length buffer) × (length buffer ≡ length buffer₀)

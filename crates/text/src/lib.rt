@@ -1,10 +1,9 @@
-// Rows of numbers as lines of text, through a buffer that is written out when it is nearly full.
+// A row of six numbers as a line of text, in a buffer that the caller lends.
 
 ghost use mathlib.Core.Path.{_≡_};
 ghost use Prim.Native.Nat.{_+_, _≤_};
 ghost use lib.IntN.{natAbs};
 ghost use lib.ListN.{length};
-ghost use Rattle.io.specs.Counts.{Counts};
 
 // How far a number is from 0. `!n` is -(n + 1), and no number is too small for it.
 fn magnitude(n: i64) -> u64
@@ -73,7 +72,7 @@ fn put_letter(buffer: &mut [u8], at: usize, letter: u8) -> usize
 }
 
 // One row, by its kind: a shift, a refused event, a refused table, a closing line. 110 bytes at most.
-fn line(row: [i64; 6], buffer: &mut [u8], at: usize) -> usize
+pub fn line(row: [i64; 6], buffer: &mut [u8], at: usize) -> usize
     requires { ⌜ at + 110 ≤ length (now buffer) ⌝ }
     ensures { λ r. ⌜ r ≤ at + 110 ⌝ }
 {
@@ -97,45 +96,4 @@ fn line(row: [i64; 6], buffer: &mut [u8], at: usize) -> usize
     let upper = put(buffer, lower, row[3], b' ');
     let lowerbound = put(buffer, upper, row[4], b' ');
     put(buffer, lowerbound, row[5], b'\n')
-}
-
-// The row that begins at `from`.
-fn row_at(numbers: &[i64], from: usize) -> [i64; 6]
-    requires { ⌜ from + 6 ≤ length (now numbers) ⌝ }
-{
-    [
-        numbers[from],
-        numbers[from + 1],
-        numbers[from + 2],
-        numbers[from + 3],
-        numbers[from + 4],
-        numbers[from + 5],
-    ]
-}
-
-// Where the next line goes: what waits in the buffer is written out if that line may not find room.
-fn with_room(buffer: &[u8], waiting: usize) -> usize
-    requires { ⌜ (waiting ≤ length (now buffer)) × (110 ≤ length (now buffer)) ⌝ }
-    ensures { λ r. ⌜ r + 110 ≤ length (now (buffer .entry)) ⌝ }
-{
-    if buffer.len() - waiting < 110 {
-        io::write_all(1, &buffer[..waiting]);
-        return 0;
-    }
-    waiting
-}
-
-// All rows; the answer is how much text waits in the buffer then.
-pub(crate) fn rows(numbers: &[i64], buffer: &mut [u8], waiting: usize) -> usize
-    requires { ⌜ (waiting ≤ length (now buffer)) × (110 ≤ length (now buffer)) ⌝ }
-    ensures { λ r. ⌜ Counts r (now (buffer .exit)) ⌝ }
-{
-    let mut at = waiting;
-    let mut from: usize = 0;
-    while numbers.len() - from >= 6 {
-        let start = with_room(buffer, at);
-        at = line(row_at(numbers, from), buffer, start);
-        from = from + 6;
-    }
-    at
 }

@@ -1,13 +1,13 @@
--- `session::text::magnitude` meets its contract. Assumes nothing.
-use Rattle.session.proofs.Signs.{below, above, flipped}
+-- `text::magnitude` meets its contract. Assumes nothing.
+use Rattle.text.proofs.Signs.{below, above, flipped}
 use mir.ValLaws.{toZ-ofZ, toZ-pos}
 use mir.Syntax.{w64}
 use native.Mathlib.Numerals.{add-one}
 use native.Mathlib.Omega.{arith}
 use Prim.Native.Nat.{suc}
 use borrow.Author.Needs.{needs}
-use Rattle.session.proofs.text.magnitude.Statement.{statement}
-use Rattle.session.proofs.text.magnitude.Tie as tie
+use Rattle.text.proofs.magnitude.Statement.{statement}
+use Rattle.text.proofs.magnitude.Tie as tie
 
 cast-result : tie.Need-cast-result
 cast-result c =
