@@ -8,13 +8,13 @@ use Rattle.session.proofs.events.answer_all.Statement.{statement}
 use Rattle.session.proofs.events.answer_all.Tie as tie
 
 chunk-room-requires : tie.Need-chunk-room-requires
-chunk-room-requires c κs = search needs
+chunk-room-requires c κs = tt
 
 row-room-requires : tie.Need-row-room-requires
-row-room-requires c κs = search needs
+row-room-requires c κs = tt
 
 large-buffer-requires : tie.Need-large-buffer-requires
-large-buffer-requires c κs = search needs
+large-buffer-requires c κs = tt
 
 slice-aggregate-answer-events : tie.Need-slice-aggregate-answer-events
 slice-aggregate-answer-events c = search needs
@@ -55,10 +55,10 @@ slice-aggregate-write-all : tie.Need-slice-aggregate-write-all
 slice-aggregate-write-all c = search needs
 
 write-all-requires : tie.Need-write-all-requires
-write-all-requires c κs = search needs
+write-all-requires c κs = tt
 
 returns : tie.Need-returns
-returns c = search needs
+returns c = tt
 
 pub answer-all-spec : {M : Type 1} → statement M
 answer-all-spec =
