@@ -11,7 +11,7 @@ use Rattle.numbers.proofs.Ranges.{fits, within-add, within-sub, within-mul, wit
 use Rattle.numbers.proofs.Machine.{cast-back}
 use Rattle.method.specs.Bounds.{market-bound, factor, interest, bound}
 use Rattle.method.proofs.Rooms.{factor-in, interest-within}
-use Rattle.line.specs.Names.{Side, Up, Down, Steps, Terms, Market}
+use Rattle.line.specs.Names.{Side, Up, Down, Terms, Market}
 use Rattle.line.specs.Rounding.{rounded}
 use Rattle.line.specs.Asks.{Drawn}
 

@@ -2,7 +2,6 @@
 use borrow.Author.Needs.{needs}
 use mathlib.Core.Path.{_∙_}
 use lib.IntN.{pos}
-use lib.Signed.{_≤ℤ_, _<ℤ_}
 use Rattle.numbers.proofs.Machine.{literal, lt-taken, lt-left}
 use Rattle.line.proofs.Opened.{turns, size-below, size-above}
 use Rattle.line.proofs.opening.magnitude.Statement.{statement}

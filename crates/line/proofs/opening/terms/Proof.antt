@@ -1,6 +1,6 @@
 -- `line::opening::terms` meets its contract. Assumes nothing.
 use borrow.Author.Needs.{needs}
-use mathlib.Core.Path.{_≡_, ap, _∙_}
+use mathlib.Core.Path.{ap, _∙_}
 use lib.Dec.{lit<}
 use lib.IntN.{pos}
 use lib.Signed.{ltZ}
