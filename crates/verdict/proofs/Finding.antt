@@ -17,9 +17,6 @@ use Rattle.verdict.specs.Screened.{slot-of, place-of}
 pub record Passed (id : ℕ) (ids : List ℕ) (i : ℕ) : Type 0 where
   pub on : place-of id ids ≡ i + place-of id (drop i ids)
 
-pub passed-none : (id : ℕ) (ids : List ℕ) → Passed id ids 0
-passed-none id ids = record { on = omega arith }
-
 module _ (id : ℕ) (ids : List ℕ) (i : ℕ) (p : Passed id ids i) where
   pub passed-turn : i < length ids → (getD ids i 0 ≡ id → ⊥) → Passed id ids (i + 1)
   passed-turn h e = record { on = p .on ∙ later }
@@ -42,8 +39,7 @@ module _ (id : ℕ) (ids : List ℕ) (i : ℕ) (p : Passed id ids i) where
       one : place-of id (drop i ids) ≡ 0
       one = ap (λ (k : ℕ). place-of id (drop k ids)) e ∙ ap (place-of id) (drop-length ids) ∙ (unfold place-of in refl)
 
--- every place is at most the number of ids, so one that is not that number is below it
-place-most : (id : ℕ) (ids : List ℕ) → place-of id ids ≤ length ids
+pub place-most : (id : ℕ) (ids : List ℕ) → place-of id ids ≤ length ids
 unfolding place-of
 place-most id [] = omega arith
 place-most id (j ∷ ids) = go (eqb j id) (place-most id ids)
@@ -53,11 +49,11 @@ place-most id (j ∷ ids) = go (eqb j id) (place-most id ids)
     go false h = omega arith
 
 module _ (id : ℕ) (ids : List ℕ) {place : ℕ} (e : place ≡ place-of id ids) where
-  pub found-none : place ≡ length ids → ltb (place-of id ids) (length ids) ≡ false
+  pub found-none : length ids ≤ place → ltb (place-of id ids) (length ids) ≡ false
   found-none h = le-ltb (place-of id ids) (length ids) (omega arith)
 
-  pub found-one : (place ≡ length ids → ⊥) → ltb (place-of id ids) (length ids) ≡ true
-  found-one h = let most = place-most id ids in lt-ltb (place-of id ids) (length ids) (omega arith)
+  pub found-one : place < length ids → ltb (place-of id ids) (length ids) ≡ true
+  found-one h = lt-ltb (place-of id ids) (length ids) (omega arith)
 
 -- ---- a guess
 every-at : (P : ℕ → Type 0) (ids : List ℕ) (p : ℕ) → Every P ids → p < length ids → P (getD ids p 0)

@@ -101,12 +101,13 @@ fn quote_screened(ids: &[u32], guess: u8, q: Quote) -> Verdict
     ensures { λ r. ⌜ r ≡ quote-screened (now (ids .entry)) q ⌝ }
 {
     let place = place_of(ids, guess, q.id);
+    let bid = q.bid;
+    let ask = q.ask;
+    let uncrossed = not_crossed(bid, ask);
     if place == ids.len() {
         return Verdict::Refused(EventReason::UnknownId);
     }
-    let bid = q.bid;
-    let ask = q.ask;
-    if !not_crossed(bid, ask) {
+    if !uncrossed {
         return Verdict::Refused(EventReason::Crossed);
     }
     let time = q.time;

@@ -2,12 +2,12 @@
 use denote.Ref.{now}
 use Prim.Native.Nat.{_-_, _≤_}
 use native.Mathlib.Omega.{arith}
-use Rattle.verdict.proofs.Finding.{Passed, passed-none, passed-turn, passed-found, passed-all, guessed}
+use Rattle.verdict.proofs.Finding.{Passed, passed-turn, passed-found, passed-all, guessed}
 use Rattle.verdict.proofs.place_of.Statement.{statement}
 use Rattle.verdict.proofs.place_of.Tie as tie
 
 abbrev Inv-loop : tie.InvT-loop
-Inv-loop ids guess id n likely i₀ i = (i ≤ n) × Passed id ids i
+Inv-loop ids guess id n likely i₀ i = Passed id ids i × (i ≤ n)
 
 abbrev μ-loop : tie.MeasureT-loop
 μ-loop ids guess id n likely i₀ i = n - i
@@ -24,7 +24,7 @@ returns c =
     guessed (s .args .id) (now (s .args .ids)) (s .args .guess) (s .pre) (c .before .before .if1 .taken) (c .if2 .taken)
 
 loop-holds : tie.Need-loop-holds Inv-loop μ-loop
-loop-holds c = (omega arith, passed-none (c .before .args .id) (now (c .before .args .ids)))
+loop-holds c = (record { on = omega arith }, omega arith)
 
 mul-if4 : tie.Need-mul-if4 Inv-loop μ-loop
 mul-if4 c = omega (arith, c .before .before .before .good .0 .1)
@@ -42,18 +42,18 @@ loop-again : tie.Need-loop-again Inv-loop μ-loop
 loop-again c =
     let s = c .before .before .before .before .before in
     let at = c .before .before .before .loop in
-    (omega arith, passed-turn (s .args .id) (now (s .args .ids)) (at .i) (at .inv .1) (omega arith) (c .if4 .left))
+    (passed-turn (s .args .id) (now (s .args .ids)) (at .i) (at .inv .0) (omega arith) (c .if4 .left), omega arith)
 
 returns-2 : tie.Need-returns-2 Inv-loop μ-loop
 returns-2 c =
     let s = c .before .before .before in
-    passed-all (s .args .id) (now (s .args .ids)) (c .before .loop .i) (c .before .loop .inv .1) (c .if3 .taken)
+    passed-all (s .args .id) (now (s .args .ids)) (c .before .loop .i) (c .before .loop .inv .0) (c .if3 .taken)
 
 returns-3 : tie.Need-returns-3 Inv-loop μ-loop
 returns-3 c =
     let s = c .before .before .before .before .before in
     let at = c .before .before .before .loop in
-    passed-found (s .args .id) (now (s .args .ids)) (at .i) (at .inv .1) (omega arith) (c .if4 .taken)
+    passed-found (s .args .id) (now (s .args .ids)) (at .i) (at .inv .0) (omega arith) (c .if4 .taken)
 
 pub place-of-spec : {M : Type 1} → statement M
 place-of-spec =
