@@ -1,0 +1,18 @@
+/*
+ * engine.h: the engine that the figures are held to. Which one it is, is chosen where figures.c is linked:
+ * engine.c has this one, library.c the proved one.
+ */
+#ifndef ENGINE_H
+#define ENGINE_H
+
+#include <stdbool.h>
+#include <stddef.h>
+#include <stdint.h>
+
+/* Whether it is this one, into whose sessions one can look. */
+extern const bool ENGINE_IS_THIS_ONE;
+
+/* Its answer to a whole input, as the program prints it, in a lent room. False where that failed. */
+bool engine_text(const uint8_t *input, size_t length, char *text, size_t room);
+
+#endif
