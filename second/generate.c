@@ -608,7 +608,7 @@ static int64_t make_event_count(Random *random)
     return chance(random, 75) ? between(random, 50, 150) : between(random, 150, MOST_EVENTS);
 }
 
-static size_t add_events(Course *course, uint8_t *bytes)
+static void choose_course(Course *course)
 {
     static const int64_t upperness[] = {50, 50, 50, 0, 100};
     static const int64_t steadiness[] = {50, 80, 95, 100};
@@ -617,6 +617,12 @@ static size_t add_events(Course *course, uint8_t *bytes)
     course->upper_percent = upperness[between(random, 0, 4)];
     course->steady_percent = steadiness[between(random, 0, 3)];
     course->spoiled_percent = spoiling[between(random, 0, 4)];
+}
+
+static size_t add_events(Course *course, uint8_t *bytes)
+{
+    Random *random = course->random;
+    choose_course(course);
     size_t length = 0;
     for (int64_t left = make_event_count(random); left > 0; left--) {
         length += add_event(course, bytes + length);
@@ -674,16 +680,38 @@ static size_t add_rest(Random *random, uint8_t *input, size_t length)
     return length + add_random_bytes(random, input + length, (size_t)between(random, 0, 3 * EVENT_BYTES));
 }
 
-size_t generate_input(uint64_t seed, uint64_t number, uint8_t input[LONGEST_INPUT])
+static Random random_of(uint64_t seed, uint64_t number)
 {
     Random random = {seed};
     random.state = draw(&random) ^ number;
     random.state = draw(&random);
+    return random;
+}
+
+size_t generate_input(uint64_t seed, uint64_t number, uint8_t input[LONGEST_INPUT])
+{
+    Random random = random_of(seed, number);
     size_t table_length = add_table(&random, input);
     size_t length = add_rest(&random, input, table_length);
     /* Some inputs are cut, half of them in the table, where few bytes of a long input lie. */
     if (chance(&random, 3)) {
         return (size_t)between(&random, 0, (int64_t)(chance(&random, 50) ? table_length : length));
+    }
+    return length;
+}
+
+size_t generate_long_input(uint64_t seed, uint64_t number, uint8_t input[LONGEST_LONG_INPUT])
+{
+    Random random = random_of(seed, number);
+    Course course = {.random = &random};
+    TableDraft draft = make_table(&random);
+    size_t length = draft_write_table(&draft, input);
+    corridor_open(input, length, &course.session);
+    choose_course(&course);
+    for (int left = EVENTS_OF_LONG_INPUT; left > 0; left--) {
+        EventDraft tick = draft_tick(course.session.clock.seconds);
+        bool idle = chance(&random, 97);
+        length += idle ? draft_write_event(&tick, input + length) : add_event(&course, input + length);
     }
     return length;
 }
