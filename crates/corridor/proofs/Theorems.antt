@@ -1,5 +1,5 @@
 -- Every session that is handed out is valid, and a refusal says paper 01's number. Assumes nothing.
-use mathlib.Core.Path.{_≡_, refl}
+use mathlib.Core.Path.{_≡_, refl, sym, _∙_}
 use mathlib.Core.List.{List, [], _∷_}
 use Prim.Native.Nat.{ℕ, _<_}
 use native.Mathlib.Omega.{arith}
@@ -81,3 +81,7 @@ pub event-says : (s : Session) (b : List ℕ) (why : EventReason) → answer (vi
     → event-said (reply-of s (read b) (answer (view s) (read b)) .answer) ≡ record { number = event-number why; values = [] }
 unfolding reply-of event-said
 event-says s b why e = rw e refl
+
+-- ---- a contract that is an equation leaves one answer
+pub one-answer : {A : Type 0} {a b right : A} → a ≡ right → b ≡ right → a ≡ b
+one-answer p q = p ∙ sym q
