@@ -13,8 +13,9 @@
  *
  * Rows 1 and 2 stand in the order of the events. A row that leaves places free has 0 there.
  *
- * Nothing is answered as of now: a limit or the place of an order price is as of the last event's second. Send a tick at
- * the present second before you ask; to ask without one is to miss the shifts that have fallen due since.
+ * What stands at the end is as of the last event's second, and not as of now. Whoever asks where the corridor stands in
+ * this second ends the events with a tick at this second; to ask without one is to miss the shifts that have fallen due
+ * since the last event.
  */
 #ifndef SUNDEWCUP_H
 #define SUNDEWCUP_H

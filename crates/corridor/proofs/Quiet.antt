@@ -18,7 +18,7 @@ use Rattle.method.proofs.Serving.{serve-calls, calls-unique}
 use Rattle.method.proofs.Answers.{applied-kept}
 use Rattle.corridor.specs.Names.{Seconds, Since, Event, Due, Found, Nothing, At}
 use Rattle.corridor.specs.Quiet.{second-of, quiet-until}
-use Rattle.holds.specs.Quiet.{until}
+use Rattle.due.specs.Quiet.{until}
 
 pub record Quiet (q : Seconds) (s : State) : Type 0 where
   pub none-before : (x : Due) → Stands s x → q .0 ≤ x .second .0

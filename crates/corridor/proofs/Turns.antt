@@ -24,7 +24,7 @@ use Rattle.corridor.specs.declared.Served.{Served}
 use Rattle.corridor.specs.declared.Reply.{Reply}
 use Rattle.corridor.specs.View.{view, Ranged, Valid}
 use Rattle.corridor.specs.Quiet.{quiet-until}
-use Rattle.holds.specs.Quiet.{until}
+use Rattle.due.specs.Quiet.{until}
 use Rattle.corridor.specs.Reply.{no-shift, served-as, refused-with}
 use Rattle.corridor.specs.Feeding.{room}
 use Rattle.corridor.proofs.Views.{view-put}

@@ -43,7 +43,7 @@ impl Session {
             let l = self.lines[i];
             ids[i] = l.terms.id;
             let h = l.holds;
-            best = holds::due::passed(wait, i, h, best);
+            best = due::passed(wait, i, h, best);
         }
         match verdict::screen(&ids[..n], 0, end, clock, e) {
             Verdict::Refused(why) => self.refused(why),
@@ -51,7 +51,7 @@ impl Session {
                 let t = v.time;
                 let mut shifts = [crate::NO_SHIFT; 16];
                 let mut made: usize = 0;
-                match holds::due::in_time(t, end, self.left, best) {
+                match due::in_time(t, end, self.left, best) {
                     Found::Nothing => {}
                     Found::At(_) => {
                         let r = self.served(t);

@@ -77,7 +77,7 @@ impl Session {
                         quiet = self.quiet();
                     }
                     let wait = self.hold;
-                    quiet = holds::due::until(quiet, t, wait);
+                    quiet = due::until(quiet, t, wait);
                     let change = v.change;
                     match change {
                         Change::Nothing => {}

@@ -47,14 +47,14 @@ impl Session {
             let mut i: usize = 0;
             let call = loop {
                 if i == n {
-                    match holds::due::in_time(t, end, self.left, best) {
+                    match due::in_time(t, end, self.left, best) {
                         Found::Nothing => break 'serving,
                         Found::At(c) => break c,
                     }
                 }
                 let l = self.lines[i];
                 let h = l.holds;
-                best = holds::due::passed(wait, i, h, best);
+                best = due::passed(wait, i, h, best);
                 i = i + 1;
             };
             let place = call.place;
@@ -87,7 +87,7 @@ impl Session {
         for i in 0..n {
             let l = self.lines[i];
             let h = l.holds;
-            best = holds::due::passed(wait, i, h, best);
+            best = due::passed(wait, i, h, best);
         }
         match best {
             Found::Nothing => Seconds(4294967295),

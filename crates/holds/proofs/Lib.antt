@@ -1,4 +1,3 @@
 pub mod Pressing
 pub mod Moving
-pub mod Finding
 pub mod Rooms

@@ -10,8 +10,4 @@ pub use Rattle.method.specs.declared.Limits.{Limits}
 pub use Rattle.method.specs.declared.Price.{Price}
 pub use Rattle.method.specs.declared.Price.the-variants.{Given}
 pub use Rattle.method.specs.declared.Book.{Book}
-pub use Rattle.method.specs.declared.Hold.{Hold}
-pub use Rattle.method.specs.declared.Hold.the-variants.{Since}
 pub use Rattle.method.specs.declared.Line.{Line}
-pub use Rattle.method.specs.declared.Found.{Found}
-pub use Rattle.method.specs.declared.Found.the-variants.{Nothing, At}

@@ -2,7 +2,7 @@
 use borrow.Author.Needs.{needs}
 use native.Mathlib.Omega.{arith}
 use Rattle.method.specs.Report.{hold-report}
-use Rattle.holds.proofs.Finding.{since-in}
+use Rattle.due.proofs.Finding.{since-in}
 use Rattle.report.proofs.hold_report.Statement.{statement}
 use Rattle.report.proofs.hold_report.Tie as tie
 

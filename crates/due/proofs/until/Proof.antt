@@ -1,9 +1,9 @@
--- `holds::due::until` meets its contract. Assumes nothing.
+-- `due::until` meets its contract. Assumes nothing.
 use borrow.Author.Needs.{needs}
 use borrow.Author.Tests.{lt-ltb, le-ltb}
-use Rattle.holds.specs.Quiet.{until}
-use Rattle.holds.proofs.due.until.Statement.{statement}
-use Rattle.holds.proofs.due.until.Tie as tie
+use Rattle.due.specs.Quiet.{until}
+use Rattle.due.proofs.until.Statement.{statement}
+use Rattle.due.proofs.until.Tie as tie
 
 add-due : tie.Need-add-due
 add-due c = search needs

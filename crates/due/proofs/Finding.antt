@@ -4,7 +4,11 @@ use mathlib.Core.Bool.{Bool, true, false, cond}
 use Prim.Native.Nat.{ℕ, _≤_}
 use Rattle.method.specs.Ranges.{HoldIn}
 use Rattle.method.specs.Search.{in-time}
-use Rattle.holds.specs.Names.{Seconds, Hold, Since, Found, Nothing, At}
+use Rattle.numbers.specs.declared.Seconds.{Seconds}
+use Rattle.method.specs.declared.Hold.{Hold}
+use Rattle.method.specs.declared.Hold.the-variants.{Since}
+use Rattle.method.specs.declared.Found.{Found}
+use Rattle.method.specs.declared.Found.the-variants.{Nothing, At}
 
 pub since-in : {h : Hold} {start : Seconds} → h ≡ Since start → HoldIn h → start .0 ≤ 172_800
 unfolding HoldIn

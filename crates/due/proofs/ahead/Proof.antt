@@ -1,9 +1,9 @@
--- `holds::due::ahead` meets its contract. Assumes nothing.
+-- `due::ahead` meets its contract. Assumes nothing.
 use borrow.Author.Needs.{needs}
 use borrow.Author.Tests.{lt-ltb, le-ltb}
 use Rattle.method.specs.Search.{ahead}
-use Rattle.holds.proofs.due.ahead.Statement.{statement}
-use Rattle.holds.proofs.due.ahead.Tie as tie
+use Rattle.due.proofs.ahead.Statement.{statement}
+use Rattle.due.proofs.ahead.Tie as tie
 
 returns : tie.Need-returns
 unfolding ahead

@@ -1,12 +1,12 @@
--- `holds::due::in_time` meets its contract. Assumes nothing.
+-- `due::in_time` meets its contract. Assumes nothing.
 use borrow.Author.Needs.{needs}
 use borrow.Author.Tests.{lt-ltb, le-ltb, le-leb, lt-leb}
 use mathlib.Core.Path.{sym}
 use native.Mathlib.Omega.{arith}
 use Rattle.method.specs.Search.{in-time}
-use Rattle.holds.proofs.Finding.{none-left}
-use Rattle.holds.proofs.due.in_time.Statement.{statement}
-use Rattle.holds.proofs.due.in_time.Tie as tie
+use Rattle.due.proofs.Finding.{none-left}
+use Rattle.due.proofs.in_time.Statement.{statement}
+use Rattle.due.proofs.in_time.Tie as tie
 
 enum-told : tie.Need-enum-told
 enum-told c = search needs

@@ -1,8 +1,8 @@
--- `holds::due::sooner` meets its contract. Assumes nothing.
+-- `due::sooner` meets its contract. Assumes nothing.
 use borrow.Author.Needs.{needs}
 use Rattle.method.specs.Search.{sooner}
-use Rattle.holds.proofs.due.sooner.Statement.{statement}
-use Rattle.holds.proofs.due.sooner.Tie as tie
+use Rattle.due.proofs.sooner.Statement.{statement}
+use Rattle.due.proofs.sooner.Tie as tie
 
 enum-told : tie.Need-enum-told
 enum-told c = search needs

@@ -1,8 +1,8 @@
--- `holds::due::passed` meets its contract. Assumes nothing.
+-- `due::passed` meets its contract. Assumes nothing.
 use borrow.Author.Needs.{needs}
 use Rattle.method.specs.Search.{passed}
-use Rattle.holds.proofs.due.passed.Statement.{statement}
-use Rattle.holds.proofs.due.passed.Tie as tie
+use Rattle.due.proofs.passed.Statement.{statement}
+use Rattle.due.proofs.passed.Tie as tie
 
 due-of-requires : tie.Need-due-of-requires
 due-of-requires c κs = search needs

@@ -1,10 +1,10 @@
-// The search for the hold that goes first, one line at a time.
+// When a hold falls due, which of two goes first, and the search for the one that does, one line at a time.
 
 ghost use mathlib.Core.Path.{_≡_};
 ghost use Prim.Native.Nat.{_≤_};
 ghost use Rattle.method.specs.Search.{due-of, ahead, sooner, passed, in-time};
 ghost use Rattle.method.specs.Ranges.{HoldIn, HoldsIn};
-ghost use Rattle.holds.specs.Quiet.{until};
+ghost use Rattle.due.specs.Quiet.{until};
 use method::Due;
 use method::Found;
 use method::Hold;

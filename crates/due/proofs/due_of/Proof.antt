@@ -1,10 +1,10 @@
--- `holds::due::due_of` meets its contract. Assumes nothing.
+-- `due::due_of` meets its contract. Assumes nothing.
 use borrow.Author.Needs.{needs}
 use native.Mathlib.Omega.{arith}
 use Rattle.method.specs.Search.{due-of}
-use Rattle.holds.proofs.Finding.{since-in}
-use Rattle.holds.proofs.due.due_of.Statement.{statement}
-use Rattle.holds.proofs.due.due_of.Tie as tie
+use Rattle.due.proofs.Finding.{since-in}
+use Rattle.due.proofs.due_of.Statement.{statement}
+use Rattle.due.proofs.due_of.Tie as tie
 
 enum-told : tie.Need-enum-told
 enum-told c = search needs
