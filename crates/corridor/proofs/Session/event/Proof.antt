@@ -6,10 +6,13 @@ use mathlib.Core.Logic.{⊎-elim}
 use Prim.Native.Nat.{_≤_, _<_, _-_}
 use native.Mathlib.Omega.{arith}
 use lib.Seq.{length-take-le}
+use Rattle.numbers.specs.declared.Seconds.{Seconds}
 use Rattle.method.specs.Sound.{Distinct}
 use Rattle.method.specs.Event.{read}
 use Rattle.method.specs.Search.{next-due, serve}
 use Rattle.verdict.specs.declared.Change.{Change}
+use Rattle.verdict.specs.declared.PlacedQuote.{PlacedQuote}
+use Rattle.verdict.specs.declared.Taken.{Taken}
 use Rattle.corridor.specs.declared.Served.{Served}
 use Rattle.corridor.specs.View.{view}
 use Rattle.corridor.specs.Reply.{served-as}
@@ -29,6 +32,30 @@ Inv-loop bytes self n wait end clock e ids₀ best₀ i₀ ids best i = (i ≤ n
 abbrev μ-loop : tie.MeasureT-loop
 μ-loop bytes self n wait end clock e ids₀ best₀ i₀ ids best i = n - i
 
+-- ---- the start, from each place that asks for what was known there
+abbrev from-loop : tie.At-loop Inv-loop μ-loop → tie.Start Inv-loop μ-loop
+from-loop c = c .before .before .before .before .before .before
+
+abbrev from-screen : tie.After-screen Inv-loop μ-loop → tie.Start Inv-loop μ-loop
+from-screen c = from-loop (c .before .before .before)
+
+abbrev from-taken : tie.After-t Inv-loop μ-loop → tie.Start Inv-loop μ-loop
+from-taken c = from-screen (c .before .before .before .before)
+
+abbrev from-served : tie.At-match2-came Inv-loop μ-loop → tie.Start Inv-loop μ-loop
+from-served c = from-taken (c .before .before)
+
+abbrev from-quote : tie.After-known-told3 Inv-loop μ-loop → tie.Start Inv-loop μ-loop
+from-quote c = from-served (c .before .before .before)
+
+-- ---- the event that is taken, and its quote
+abbrev taken : tie.After-t Inv-loop μ-loop → Taken
+taken c = c .before .before .v .given .0 .0
+
+abbrev placed : tie.After-known-told3 Inv-loop μ-loop → PlacedQuote
+placed c = c .before .change .given .0 .0
+
+-- ---- the walk over the lines
 read-requires : tie.Need-read-requires Inv-loop μ-loop
 read-requires c κs = search needs
 
@@ -36,44 +63,48 @@ loop-holds : tie.Need-loop-holds Inv-loop μ-loop
 loop-holds c = (omega arith, refl, gathered-none _)
 
 mul-l : tie.Need-mul-l Inv-loop μ-loop
-mul-l c = let v = c .before .before .before .before .before .before .before .pre in omega (arith, v .few)
+mul-l c = let v = from-loop (c .before) .pre in omega (arith, v .few)
 
 element-copy-out-l : tie.Need-element-copy-out-l Inv-loop μ-loop
-element-copy-out-l c = let v = c .before .before .before .before .before .before .before .pre in omega (arith, v .few, v .full)
+element-copy-out-l c = let v = from-loop (c .before) .pre in omega (arith, v .few, v .full)
 
 mul-ids : tie.Need-mul-ids Inv-loop μ-loop
-mul-ids c = let v = c .before .before .before .before .before .before .before .before .pre in omega (arith, v .few)
+mul-ids c = let v = from-loop (c .before .before) .pre in omega (arith, v .few)
 
 array-write-ids : tie.Need-array-write-ids Inv-loop μ-loop
-array-write-ids c = let v = c .before .before .before .before .before .before .before .before .pre in omega (arith, v .few)
+array-write-ids c = let v = from-loop (c .before .before) .pre in omega (arith, v .few)
 
 passed-requires : tie.Need-passed-requires Inv-loop μ-loop
-passed-requires c κs = row-passes _ (c .before .before .before .loop .i) (ranged (c .before .before .before .before .before .before .before .before .before .pre)) refl (omega arith)
+passed-requires c κs = let at = c .before .before .before in row-passes _ (at .loop .i) (ranged (from-loop at .pre)) refl (omega arith)
 
 add-i : tie.Need-add-i Inv-loop μ-loop
-add-i c = let v = c .before .before .before .before .before .before .before .before .before .before .pre in omega (arith, v .few)
+add-i c = let v = from-loop (c .before .before .before .before) .pre in omega (arith, v .few)
 
 loop-less : tie.Need-loop-less Inv-loop μ-loop
 loop-less c = search needs
 
 loop-again : tie.Need-loop-again Inv-loop μ-loop
 loop-again c =
-    let s = c .before .before .before .before .before .before .before .before .before .before in
-    let at = c .before .before .before .before .loop in (
+    let s = from-loop (c .before .before .before .before) in
+    let at = c .before .before .before .before .loop in
+    let ls = s .args .t1 .lines in (
       omega arith,
-      passed-turn _ (s .args .t1 .count) (s .args .t1 .lines) (at .i) _ _ (omega arith) (omega (arith, s .pre .few, s .pre .full)) (c .passed .ensures) (at .inv .1),
-      gathered-turn (s .args .t1 .lines) (at .i) (at .ids) (omega (arith, s .pre .few, s .pre .full)) (omega (arith, s .pre .few)) (at .inv .2),
+      passed-turn _ (s .args .t1 .count) ls (at .i) _ _ (omega arith) (omega (arith, s .pre .few, s .pre .full)) (c .passed .ensures) (at .inv .1),
+      gathered-turn ls (at .i) (at .ids) (omega (arith, s .pre .few, s .pre .full)) (omega (arith, s .pre .few)) (at .inv .2),
     )
 
+-- ---- the ids go to the screen
 array-share-prefix-ids : tie.Need-array-share-prefix-ids Inv-loop μ-loop
-array-share-prefix-ids c = let v = c .before .before .before .before .before .before .before .pre in omega (arith, v .few, c .before .loop .inv .2 .long)
+array-share-prefix-ids c = omega (arith, from-loop (c .before) .pre .few, c .before .loop .inv .2 .long)
 
 slice-aggregate-screen : tie.Need-slice-aggregate-screen Inv-loop μ-loop
-slice-aggregate-screen c = let v = c .before .before .before .before .before .before .before .before .pre in sym (length-take-le _ (c .before .before .loop .ids) (omega (arith, v .few, c .before .before .loop .inv .2 .long)))
+slice-aggregate-screen c =
+    let at = c .before .before in
+    sym (length-take-le _ (at .loop .ids) (omega (arith, from-loop at .pre .few, at .loop .inv .2 .long)))
 
 screen-requires : tie.Need-screen-requires Inv-loop μ-loop
 screen-requires c κs =
-    let s = c .before .before .before .before .before .before .before .before in
+    let s = from-loop (c .before .before) in
     let at = c .before .before .loop in
     subst Distinct (sym (gathered-all (s .args .t1 .lines) (s .args .t1 .count) (at .i) (at .ids) (omega arith) (at .inv .2))) (s .pre .distinct)
 
@@ -96,32 +127,44 @@ enum-told-2 : tie.Need-enum-told-2 Inv-loop μ-loop
 enum-told-2 c = search needs
 
 -- ---- what the verdict says
-said : (c : tie.After-screen Inv-loop μ-loop) → Says (view (c .before .before .before .before .before .before .before .before .before .args .t1)) (read (now (c .before .before .before .before .before .before .before .before .before .args .bytes))) (c .screen .result)
+said : (c : tie.After-screen Inv-loop μ-loop) → Says (view (from-screen c .args .t1)) (read (now (from-screen c .args .bytes))) (c .screen .result)
 said c =
+    let s = from-screen c in
     let at = c .before .before .before .loop in
-    let s = c .before .before .before .before .before .before .before .before .before in
-    session-says (s .args .t1) (gathered-all (s .args .t1 .lines) (s .args .t1 .count) (at .i) (at .ids) (omega arith) (at .inv .2)) (c .before .before .before .before .read .ensures) (c .screen .ensures)
+    let known = gathered-all (s .args .t1 .lines) (s .args .t1 .count) (at .i) (at .ids) (omega arith) (at .inv .2) in
+    session-says (s .args .t1) known (c .before .before .before .before .read .ensures) (c .screen .ensures)
 
-takes : (c : tie.After-t Inv-loop μ-loop) → Takes (view (c .before .before .before .before .before .before .before .before .before .before .before .before .before .args .t1)) (read (now (c .before .before .before .before .before .before .before .before .before .before .before .before .before .args .bytes))) (c .before .before .v .given .0 .0)
-takes c = subst (Says (view (c .before .before .before .before .before .before .before .before .before .before .before .before .before .args .t1)) (read (now (c .before .before .before .before .before .before .before .before .before .before .before .before .before .args .bytes)))) (c .before .before .v .given .1) (said (c .before .before .before .before))
+takes : (c : tie.After-t Inv-loop μ-loop) → Takes (view (from-taken c .args .t1)) (read (now (from-taken c .args .bytes))) (taken c)
+takes c =
+    let s = from-taken c in
+    subst (Says (view (s .args .t1)) (read (now (s .args .bytes)))) (c .before .before .v .given .1) (said (c .before .before .before .before))
 
 -- ---- the hold that is due next
-not-due : (c : tie.After-in-time Inv-loop μ-loop) → next-due (c .before .before .before .v .given .0 .0 .time) (view (c .before .before .before .before .before .before .before .before .before .before .before .before .before .before .args .t1)) ≡ c .in-time .result
-not-due c =
-    let s = c .before .before .before .before .before .before .before .before .before .before .before .before .before .before in
+next-is : (c : tie.After-in-time Inv-loop μ-loop) → next-due (taken (c .before) .time) (view (from-taken (c .before) .args .t1)) ≡ c .in-time .result
+next-is c =
+    let s = from-taken (c .before) in
     let at = c .before .before .before .before .before .before .before .before .loop in
-    searched (s .args .t1) (c .before .before .before .v .given .0 .0 .time) _ _ _ (at .i) (at .best) (c .in-time .result) refl refl refl (omega (arith, s .pre .few, s .pre .full)) (omega arith) (at .inv .1) (c .in-time .ensures)
+    searched (s .args .t1) (taken (c .before) .time) _ _ _ (at .i) (at .best) (c .in-time .result) refl refl refl
+    (omega (arith, s .pre .few, s .pre .full)) (omega arith) (at .inv .1) (c .in-time .ensures)
 
 -- ---- the session served, whether a hold was due or not
+abbrev served-here : tie.At-match2-came Inv-loop μ-loop → Served
+served-here c = record { shifts = c .match2 .shifts; made = c .match2 .made; session = c .match2 .self }
+
+abbrev time-here : tie.At-match2-came Inv-loop μ-loop → Seconds
+time-here c = taken (c .before .before) .time
+
 served-so : (c : tie.At-match2-came Inv-loop μ-loop)
-    → _≡_ {A = Served} (record { shifts = c .match2 .shifts; made = c .match2 .made; session = c .match2 .self })
-    (served-as (c .before .before .before .before .before .before .before .before .before .before .before .before .before .before .before .args .t1) (serve (c .before .before .before .before .before .before .before .before .before .before .before .before .before .before .before .args .t1 .left) (c .before .before .before .before .v .given .0 .0 .time) (view (c .before .before .before .before .before .before .before .before .before .before .before .before .before .before .before .args .t1))))
-served-so c = ⊎-elim
-    (λ w. served-path (w .3) (w .4) (w .2) ∙ idle (c .before .before .before .before .before .before .before .before .before .before .before .before .before .before .before .args .t1) (c .before .before .before .before .v .given .0 .0 .time) (c .before .before .before .before .before .before .before .before .before .before .before .before .before .before .before .pre) (serve-stop (c .before .before .before .before .before .before .before .before .before .before .before .before .before .before .before .args .t1 .left) (c .before .before .before .before .v .given .0 .0 .time) (view (c .before .before .before .before .before .before .before .before .before .before .before .before .before .before .before .args .t1)) (not-due (c .before) ∙ w .1 .given .1)))
+    → served-here c ≡ served-as (from-served c .args .t1) (serve (from-served c .args .t1 .left) (time-here c) (view (from-served c .args .t1)))
+served-so c =
+    let s = from-served c in
+    let stays = serve-stop (s .args .t1 .left) (time-here c) (view (s .args .t1)) in
+    ⊎-elim
+    (λ w. served-path (w .3) (w .4) (w .2) ∙ idle (s .args .t1) (time-here c) (s .pre) (stays (next-is (c .before) ∙ w .1 .given .1)))
     (λ w. served-path (w .6) (w .7) (w .5) ∙ w .2 .ensures) (c .match2 .came)
 
 served-requires : tie.Need-served-requires Inv-loop μ-loop
-served-requires c κs = c .before .before .before .before .before .before .before .before .before .before .before .before .before .before .before .before .pre
+served-requires c κs = from-taken (c .before .before .before) .pre
 
 enum-told-3 : tie.Need-enum-told-3 Inv-loop μ-loop
 enum-told-3 c = search needs
@@ -130,14 +173,17 @@ enum-known-change : tie.Need-enum-known-change Inv-loop μ-loop
 enum-known-change c = search needs
 
 -- ---- the line of a quote
-changes : (c : tie.After-known-told3 Inv-loop μ-loop) → Changes (view (c .before .before .before .before .before .before .before .before .before .before .before .before .before .before .before .before .before .before .args .t1)) (read (now (c .before .before .before .before .before .before .before .before .before .before .before .before .before .before .before .before .before .before .args .bytes))) (Change.Quote (c .before .change .given .0 .0))
-changes c = subst (Changes (view (c .before .before .before .before .before .before .before .before .before .before .before .before .before .before .before .before .before .before .args .t1)) (read (now (c .before .before .before .before .before .before .before .before .before .before .before .before .before .before .before .before .before .before .args .bytes)))) (c .before .change .given .1) (takes (c .before .before .before .before .before) .changes)
+changes : (c : tie.After-known-told3 Inv-loop μ-loop)
+    → Changes (view (from-quote c .args .t1)) (read (now (from-quote c .args .bytes))) (Change.Quote (placed c))
+changes c =
+    let s = from-quote c in
+    subst (Changes (view (s .args .t1)) (read (now (s .args .bytes)))) (c .before .change .given .1) (takes (c .before .before .before .before .before) .changes)
 
-below : (c : tie.After-known-told3 Inv-loop μ-loop) → c .before .change .given .0 .0 .place < 32
+below : (c : tie.After-known-told3 Inv-loop μ-loop) → placed c .place < 32
 below c =
-    let s = c .before .before .before .before .before .before .before .before .before .before .before .before .before .before .before .before .before .before in
-    let p = c .before .change .given .0 .0 in
-    omega (arith, named-below (p .quote .id) (view (s .args .t1) .lines) (p .place) (changes c .1), view-length (s .pre), s .pre .few)
+    let s = from-quote c in
+    let named = named-below (placed c .quote .id) (view (s .args .t1) .lines) (placed c .place) (changes c .1) in
+    omega (arith, named, view-length (s .pre), s .pre .few)
 
 mul-l-2 : tie.Need-mul-l-2 Inv-loop μ-loop
 mul-l-2 c = omega (arith, below (c .before .before))
@@ -147,10 +193,12 @@ element-copy-out-l-2 c = below (c .before .before)
 
 quoted-line-requires : tie.Need-quoted-line-requires Inv-loop μ-loop
 quoted-line-requires c κs =
-    let s = c .before .before .before .before .before .before .before .before .before .before .before .before .before .before .before .before .before .before .before .before .before in
-    let q = c .before .before .before .before .change .given .0 .0 in
-    let o = changes (c .before .before .before) in
-    quote-asks (s .args .t1) (c .before .before .before .before .before .before .before .before .before .before .v .given .0 .0 .time) (q .quote) (q .place) _ (s .pre) (o .1) (quote-in (now (s .args .bytes)) (q .quote) (o .0)) (served-so (c .before .before .before .before .before .before))
+    let at = c .before .before .before in
+    let s = from-quote at in
+    let q = placed at in
+    let o = changes at in
+    let so = served-so (at .before .before .before) in
+    quote-asks (s .args .t1) (time-here (at .before .before .before)) (q .quote) (q .place) _ (s .pre) (o .1) (quote-in (now (s .args .bytes)) (q .quote) (o .0)) so
 
 mul-m : tie.Need-mul-m Inv-loop μ-loop
 mul-m c = omega (arith, below (c .before .before .before .before))
@@ -158,18 +206,24 @@ mul-m c = omega (arith, below (c .before .before .before .before))
 element-set-from-m : tie.Need-element-set-from-m Inv-loop μ-loop
 element-set-from-m c = below (c .before .before .before .before)
 
+-- ---- the two answers
 returns : tie.Need-returns Inv-loop μ-loop
 returns c =
-    let s = c .before .before .before .before .before .before .before .before .before .before .before .before .before in
-    c .refused .ensures ∙ refused-is (s .args .t1) (read (now (s .args .bytes))) _ (subst (Says (view (s .args .t1)) (read (now (s .args .bytes)))) (c .before .before .why .given .1) (said (c .before .before .before .before)))
+    let seen = c .before .before .before .before in
+    let s = from-screen seen in
+    let why = subst (Says (view (s .args .t1)) (read (now (s .args .bytes)))) (c .before .before .why .given .1) (said seen) in
+    c .refused .ensures ∙ refused-is (s .args .t1) (read (now (s .args .bytes))) _ why
 
 returns-2 : tie.Need-returns-2 Inv-loop μ-loop
 returns-2 c =
-    let s = c .before .before .before .before .before .before .before .before .before .before .before .before .before .before .before .before in
-    let r : Served = record { shifts = c .before .match2 .shifts; made = c .before .match2 .made; session = c .before .match2 .self } in
-    let told = event-taken (s .args .t1) (read (now (s .args .bytes))) (c .before .before .before .before .before .v .given .0 .0) r (takes (c .before .before .before)) (served-so (c .before)) in
+    let s = from-served (c .before) in
+    let r = served-here (c .before) in
+    let at = c .before .before .before in
+    let told = event-taken (s .args .t1) (read (now (s .args .bytes))) (taken at) r (takes at) (served-so (c .before)) in
+    let put = quoted-in (r .session) in
     ⊎-elim (λ w. told Change.Nothing (w .1 .given .1) (c .match3 .self) (w .2))
-    (λ w. told (Change.Quote (w .1 .given .0 .0)) (w .1 .given .1) (c .match3 .self) (w .7 ∙ ap (quoted-in (r .session) (w .1 .given .0 .0 .place)) (w .6 .ensures))) (c .match3 .came)
+    (λ w. told (Change.Quote (w .1 .given .0 .0)) (w .1 .given .1) (c .match3 .self) (w .7 ∙ ap (put (w .1 .given .0 .0 .place)) (w .6 .ensures)))
+    (c .match3 .came)
 
 pub event-spec : {M : Type 1} → statement M
 event-spec =

@@ -3,14 +3,18 @@ use borrow.Author.Needs.{needs}
 use denote.Ref.{now}
 use mathlib.Core.Path.{_≡_, sym, ap, subst, _∙_}
 use mathlib.Core.Logic.{⊎-elim}
-use Prim.Native.Nat.{_≤_, _<_, _-_}
+use mathlib.Core.List.{List}
+use Prim.Native.Nat.{ℕ, _≤_, _<_, _+_, _-_}
 use native.Mathlib.Omega.{arith}
 use lib.ListN.{length, take, drop}
 use lib.Seq.{length-take-le}
 use Rattle.method.specs.Sound.{Distinct}
 use Rattle.method.specs.Event.{read}
 use Rattle.verdict.specs.declared.Change.{Change}
+use Rattle.verdict.specs.declared.PlacedQuote.{PlacedQuote}
+use Rattle.verdict.specs.declared.Taken.{Taken}
 use Rattle.verdict.proofs.Finding.{slot-below}
+use Rattle.corridor.specs.declared.Session.{Session}
 use Rattle.corridor.specs.View.{view}
 use Rattle.corridor.specs.Feeding.{room}
 use Rattle.corridor.proofs.Views.{view-length}
@@ -36,6 +40,66 @@ Inv-loop2 events out₀ self₀ size needed n ids guesses quiet₀ at₀ from₀
 abbrev μ-loop2 : tie.MeasureT-loop2
 μ-loop2 events out₀ self₀ size needed n ids guesses quiet₀ at₀ from₀ out self quiet at from = size - from
 
+-- ---- the places that ask for facts, and the way back from each to those that know them
+abbrev Start : Type 0
+Start = tie.Start Inv-loop μ-loop Inv-loop2 μ-loop2
+
+abbrev Gathering : Type 0
+Gathering = tie.At-loop Inv-loop μ-loop Inv-loop2 μ-loop2
+
+abbrev Turning : Type 0
+Turning = tie.At-loop2 Inv-loop μ-loop Inv-loop2 μ-loop2
+
+abbrev CutOut : Type 0
+CutOut = tie.After-cut Inv-loop μ-loop Inv-loop2 μ-loop2
+
+abbrev Screened : Type 0
+Screened = tie.After-screen Inv-loop μ-loop Inv-loop2 μ-loop2
+
+abbrev Timed : Type 0
+Timed = tie.After-t Inv-loop μ-loop Inv-loop2 μ-loop2
+
+abbrev Served : Type 0
+Served = tie.Joined2 Inv-loop μ-loop Inv-loop2 μ-loop2
+
+abbrev Quoted : Type 0
+Quoted = tie.After-known-told3 Inv-loop μ-loop Inv-loop2 μ-loop2
+
+abbrev from-gathering : Gathering → Start
+from-gathering c = c .before .before .before .before
+
+abbrev from-turning : Turning → Start
+from-turning c = from-gathering (c .before .before)
+
+abbrev turning : CutOut → Turning
+turning c = c .before .before
+
+abbrev cut-screened : Screened → CutOut
+cut-screened c = c .before .before .before .before .before .before .before
+
+abbrev cut-timed : Timed → CutOut
+cut-timed c = cut-screened (c .before .before .before .before)
+
+abbrev cut-served : Served → CutOut
+cut-served c = cut-timed (c .before .before .before)
+
+abbrev cut-quoted : Quoted → CutOut
+cut-quoted c = cut-served (c .before .before .before .before .before)
+
+-- ---- the event at hand: the session that meets it, its bytes, what is taken of it, and its quote
+abbrev session : CutOut → Session
+session c = turning c .loop2 .self
+
+abbrev bytes : CutOut → List ℕ
+bytes c = take (c .cut .result - turning c .loop2 .from) (drop (turning c .loop2 .from) (now (from-turning (turning c) .args .events)))
+
+abbrev taken : Timed → Taken
+taken c = c .before .before .v .given .0 .0
+
+abbrev placed : Quoted → PlacedQuote
+placed c = c .before .change .given .0 .0
+
+-- ---- no room
 room-requires : tie.Need-room-requires Inv-loop μ-loop Inv-loop2 μ-loop2
 room-requires c κs = omega arith
 
@@ -47,54 +111,56 @@ returns c =
       nothing-into (s .args .t1) (now (s .args .out)) (now (s .args .events)) e (c .if1 .taken),
     )
 
+-- ---- the ids and the guesses are gathered
 loop-holds : tie.Need-loop-holds Inv-loop μ-loop Inv-loop2 μ-loop2
 loop-holds c = (omega arith, gathered-none _)
 
 mul-l : tie.Need-mul-l Inv-loop μ-loop Inv-loop2 μ-loop2
-mul-l c = let v = c .before .before .before .before .before .pre in omega (arith, v .few)
+mul-l c = omega (arith, from-gathering (c .before) .pre .few)
 
 element-copy-out-l : tie.Need-element-copy-out-l Inv-loop μ-loop Inv-loop2 μ-loop2
-element-copy-out-l c = let v = c .before .before .before .before .before .pre in omega (arith, v .few, v .full)
+element-copy-out-l c = let v = from-gathering (c .before) .pre in omega (arith, v .few, v .full)
 
 mul-ids : tie.Need-mul-ids Inv-loop μ-loop Inv-loop2 μ-loop2
-mul-ids c = let v = c .before .before .before .before .before .before .pre in omega (arith, v .few)
+mul-ids c = omega (arith, from-gathering (c .before .before) .pre .few)
 
 array-write-ids : tie.Need-array-write-ids Inv-loop μ-loop Inv-loop2 μ-loop2
-array-write-ids c = let v = c .before .before .before .before .before .before .pre in omega (arith, v .few)
+array-write-ids c = omega (arith, from-gathering (c .before .before) .pre .few)
 
 cast-slot : tie.Need-cast-slot Inv-loop μ-loop Inv-loop2 μ-loop2
 cast-slot c = search needs
 
 cast-guesses : tie.Need-cast-guesses Inv-loop μ-loop Inv-loop2 μ-loop2
-cast-guesses c = let v = c .before .before .before .before .before .before .pre in omega (arith, v .few)
+cast-guesses c = omega (arith, from-gathering (c .before .before) .pre .few)
 
 array-write-guesses : tie.Need-array-write-guesses Inv-loop μ-loop Inv-loop2 μ-loop2
 array-write-guesses c = omega arith
 
 add-i : tie.Need-add-i Inv-loop μ-loop Inv-loop2 μ-loop2
-add-i c = let v = c .before .before .before .before .before .before .pre in omega (arith, v .few)
+add-i c = omega (arith, from-gathering (c .before .before) .pre .few)
 
 loop-less : tie.Need-loop-less Inv-loop μ-loop Inv-loop2 μ-loop2
 loop-less c = search needs
 
 loop-again : tie.Need-loop-again Inv-loop μ-loop Inv-loop2 μ-loop2
 loop-again c =
-    let s = c .before .before .before .before .before .before in
+    let s = from-gathering (c .before .before) in
     let at = c .before .before .loop in
     (omega arith, gathered-turn (s .args .t1 .lines) (at .i) (at .ids) (omega (arith, s .pre .few, s .pre .full)) (omega (arith, s .pre .few)) (at .inv .1))
 
 loop2-holds : tie.Need-loop2-holds Inv-loop μ-loop Inv-loop2 μ-loop2
 loop2-holds c =
-    let s = c .before .before .before .before .before in
+    let s = from-gathering (c .before) in
     let at = c .before .loop in
     turn-start (s .args .t1) (now (s .args .events)) (now (s .args .out)) (s .args .t1 .count) (at .ids) (s .pre)
-    (omega (arith, c .before .before .before .room .ensures, c .before .before .if1 .left)) (gathered-all (s .args .t1 .lines) (s .args .t1 .count) (at .i) (at .ids) (omega arith) (at .inv .1))
+    (omega (arith, c .before .before .before .room .ensures, c .before .before .if1 .left))
+    (gathered-all (s .args .t1 .lines) (s .args .t1 .count) (at .i) (at .ids) (omega arith) (at .inv .1))
 
+-- ---- the event at hand is cut out and read
 cut-requires : tie.Need-cut-requires Inv-loop μ-loop Inv-loop2 μ-loop2
 cut-requires c κs = c .loop2-test .taken
 
--- ---- the event at hand
-cut : (c : tie.After-cut Inv-loop μ-loop Inv-loop2 μ-loop2) → Cut (c .before .before .loop2 .from) (length (now (c .before .before .before .before .before .before .before .before .args .events))) (c .cut .result)
+cut : (c : CutOut) → Cut (turning c .loop2 .from) (length (now (from-turning (turning c) .args .events))) (c .cut .result)
 cut c = cut-is _ _ _ (c .before .loop2-test .taken) (c .cut .ensures)
 
 sub-read : tie.Need-sub-read Inv-loop μ-loop Inv-loop2 μ-loop2
@@ -116,92 +182,114 @@ array-read-guess : tie.Need-array-read-guess Inv-loop μ-loop Inv-loop2 μ-loop2
 array-read-guess c = omega (arith, c .slot .ensures, slot-below (c .before .before .before .read .result))
 
 array-share-prefix-ids : tie.Need-array-share-prefix-ids Inv-loop μ-loop Inv-loop2 μ-loop2
-array-share-prefix-ids c = omega (arith, c .before .before .before .before .before .before .before .before .before .before .before .before .before .pre .few, c .before .before .before .before .before .before .before .before .before .loop .inv .1 .long)
+array-share-prefix-ids c =
+    let at = turning (c .before .before .before .before .before) .before .before in
+    omega (arith, from-gathering at .pre .few, at .loop .inv .1 .long)
 
 slice-aggregate-screen : tie.Need-slice-aggregate-screen Inv-loop μ-loop Inv-loop2 μ-loop2
-slice-aggregate-screen c = sym (length-take-le _ (c .before .before .before .before .before .before .before .before .before .before .loop .ids) (omega (arith, c .before .before .before .before .before .before .before .before .before .before .before .before .before .before .pre .few, c .before .before .before .before .before .before .before .before .before .before .loop .inv .1 .long)))
+slice-aggregate-screen c =
+    let at = turning (c .before .before .before .before .before .before) .before .before in
+    sym (length-take-le _ (at .loop .ids) (omega (arith, from-gathering at .pre .few, at .loop .inv .1 .long)))
 
 screen-requires : tie.Need-screen-requires Inv-loop μ-loop Inv-loop2 μ-loop2
-screen-requires c κs = subst Distinct (sym (c .before .before .before .before .before .before .before .before .loop2 .inv .named)) (c .before .before .before .before .before .before .before .before .loop2 .inv .ahead .valid .distinct)
+screen-requires c κs =
+    let at = turning (c .before .before .before .before .before .before) .loop2 in
+    subst Distinct (sym (at .inv .named)) (at .inv .ahead .valid .distinct)
 
+-- ---- what the verdict says
+said : (c : Screened) → Says (view (session (cut-screened c))) (read (bytes (cut-screened c))) (c .screen .result)
+said c =
+    let k = cut-screened c in
+    session-says (session k) (turning k .loop2 .inv .named) (c .before .before .before .before .before .read .ensures) (c .screen .ensures)
+
+takes : (c : Timed) → Takes (view (session (cut-timed c))) (read (bytes (cut-timed c))) (taken c)
+takes c =
+    let k = cut-timed c in
+    subst (Says (view (session k)) (read (bytes k))) (c .before .before .v .given .1) (said (c .before .before .before .before))
+
+-- ---- a refusal: its row is written
 enum-known-why : tie.Need-enum-known-why Inv-loop μ-loop Inv-loop2 μ-loop2
 enum-known-why c = search needs
 
+row-has-room : (k : CutOut) → turning k .loop2 .at + 6 ≤ length (turning k .loop2 .out)
+row-has-room k =
+    let s = from-turning (turning k) in
+    row-fits (s .args .t1) (now (s .args .events)) (now (s .args .out)) _ _ (turning k .loop2 .inv) (k .before .loop2-test .taken) (cut k)
+
 write-requires : tie.Need-write-requires Inv-loop μ-loop Inv-loop2 μ-loop2
-write-requires c κs =
-    let s = c .before .before .before .before .before .before .before .before .before .before .before .before .before .before .before .before .before .before .before in
-    omega (arith, row-fits (s .args .t1) (now (s .args .events)) (now (s .args .out)) _ _ (c .before .before .before .before .before .before .before .before .before .before .before .before .before .loop2 .inv) (c .before .before .before .before .before .before .before .before .before .before .before .before .loop2-test .taken) (cut (c .before .before .before .before .before .before .before .before .before .before .before)))
+write-requires c κs = omega (arith, row-has-room (cut-screened (c .before .before .before .before)))
 
 add-at : tie.Need-add-at Inv-loop μ-loop Inv-loop2 μ-loop2
 add-at c =
-    let s = c .before .before .before .before .before .before .before .before .before .before .before .before .before .before .before .before .before .before .before .before .before in
-    let at = c .before .before .before .before .before .before .before .before .before .before .before .before .before .before .before .loop2 in
-    omega (arith, row-fits (s .args .t1) (now (s .args .events)) (now (s .args .out)) _ _ (at .inv) (c .before .before .before .before .before .before .before .before .before .before .before .before .before .before .loop2-test .taken) (cut (c .before .before .before .before .before .before .before .before .before .before .before .before .before)), ahead-long (s .args .t1) (now (s .args .events)) (now (s .args .out)) (at .inv .ahead), s .good)
+    let k = cut-screened (c .before .before .before .before .before .before) in
+    let s = from-turning (turning k) in
+    omega (arith, row-has-room k, ahead-long (s .args .t1) (now (s .args .events)) (now (s .args .out)) (turning k .loop2 .inv .ahead), s .good)
 
 loop2-less : tie.Need-loop2-less Inv-loop μ-loop Inv-loop2 μ-loop2
-loop2-less c = let k = cut (c .before .before .before .before .before .before .before .before .before .before .before .before .before) in omega (arith, k .on, k .inside)
-
--- ---- what the verdict says
-said : (c : tie.After-screen Inv-loop μ-loop Inv-loop2 μ-loop2)
-    → Says (view (c .before .before .before .before .before .before .before .before .before .loop2 .self)) (read (take (c .before .before .before .before .before .before .before .cut .result - c .before .before .before .before .before .before .before .before .before .loop2 .from) (drop (c .before .before .before .before .before .before .before .before .before .loop2 .from) (now (c .before .before .before .before .before .before .before .before .before .before .before .before .before .before .before .args .events))))) (c .screen .result)
-said c = session-says (c .before .before .before .before .before .before .before .before .before .loop2 .self) (c .before .before .before .before .before .before .before .before .before .loop2 .inv .named) (c .before .before .before .before .before .read .ensures) (c .screen .ensures)
-
-takes : (c : tie.After-t Inv-loop μ-loop Inv-loop2 μ-loop2)
-    → Takes (view (c .before .before .before .before .before .before .before .before .before .before .before .before .before .loop2 .self)) (read (take (c .before .before .before .before .before .before .before .before .before .before .before .cut .result - c .before .before .before .before .before .before .before .before .before .before .before .before .before .loop2 .from) (drop (c .before .before .before .before .before .before .before .before .before .before .before .before .before .loop2 .from) (now (c .before .before .before .before .before .before .before .before .before .before .before .before .before .before .before .before .before .before .before .args .events))))) (c .before .before .v .given .0 .0)
-takes c = subst (Says (view (c .before .before .before .before .before .before .before .before .before .before .before .before .before .loop2 .self)) (read (take (c .before .before .before .before .before .before .before .before .before .before .before .cut .result - c .before .before .before .before .before .before .before .before .before .before .before .before .before .loop2 .from) (drop (c .before .before .before .before .before .before .before .before .before .before .before .before .before .loop2 .from) (now (c .before .before .before .before .before .before .before .before .before .before .before .before .before .before .before .before .before .before .before .args .events)))))) (c .before .before .v .given .1) (said (c .before .before .before .before))
+loop2-less c = let k = cut (cut-screened (c .before .before .before .before .before .before)) in omega (arith, k .on, k .inside)
 
 loop2-again : tie.Need-loop2-again Inv-loop μ-loop Inv-loop2 μ-loop2
 loop2-again c =
-    let s = c .before .before .before .before .before .before .before .before .before .before .before .before .before .before .before .before .before .before .before .before .before in
-    turn-refused (s .args .t1) (now (s .args .events)) (now (s .args .out)) _ _ (c .before .before .before .before .before .before .before .before .before .before .before .before .before .before .before .loop2 .inv) (c .before .before .before .before .before .before .before .before .before .before .before .before .before .before .loop2-test .taken) (cut (c .before .before .before .before .before .before .before .before .before .before .before .before .before)) _
-    (subst (Says (view (c .before .before .before .before .before .before .before .before .before .before .before .before .before .before .before .loop2 .self)) (read (take (c .before .before .before .before .before .before .before .before .before .before .before .before .before .cut .result - c .before .before .before .before .before .before .before .before .before .before .before .before .before .before .before .loop2 .from) (drop (c .before .before .before .before .before .before .before .before .before .before .before .before .before .before .before .loop2 .from) (now (s .args .events)))))) (c .before .before .before .before .why .given .1) (said (c .before .before .before .before .before .before)))
-    (c .before .write .ensures)
+    let seen = c .before .before .before .before .before .before in
+    let k = cut-screened seen in
+    let s = from-turning (turning k) in
+    turn-refused (s .args .t1) (now (s .args .events)) (now (s .args .out)) _ _ (turning k .loop2 .inv) (k .before .loop2-test .taken) (cut k) _
+    (subst (Says (view (session k)) (read (bytes k))) (c .before .before .before .before .why .given .1) (said seen)) (c .before .write .ensures)
 
+-- ---- the holds that are due are served, or none is
 enum-known-v : tie.Need-enum-known-v Inv-loop μ-loop Inv-loop2 μ-loop2
 enum-known-v c = search needs
 
 served-requires : tie.Need-served-requires Inv-loop μ-loop Inv-loop2 μ-loop2
-served-requires c κs = c .before .before .before .before .before .before .before .before .before .before .before .before .before .before .before .before .loop2 .inv .ahead .valid
+served-requires c κs = turning (cut-timed (c .before .before .before)) .loop2 .inv .ahead .valid
 
 write-shifts-requires : tie.Need-write-shifts-requires Inv-loop μ-loop Inv-loop2 μ-loop2
 write-shifts-requires c κs =
-    let s = c .before .before .before .before .before .before .before .before .before .before .before .before .before .before .before .before .before .before .before .before .before .before .before .before .before in
-    let at = c .before .before .before .before .before .before .before .before .before .before .before .before .before .before .before .before .before .before .before .loop2 in
+    let k = cut-timed (c .before .before .before .before .before .before) in
+    let s = from-turning (turning k) in
+    let at = turning k .loop2 in
     let few = served-few (at .self) _ (at .inv .ahead .valid) (c .before .before .served .result) (c .before .before .served .ensures) in
-    (few .0, shifts-fit (s .args .t1) (now (s .args .events)) (now (s .args .out)) _ _ (at .inv) (c .before .before .before .before .before .before .before .before .before .before .before .before .before .before .before .before .before .before .loop2-test .taken) (cut (c .before .before .before .before .before .before .before .before .before .before .before .before .before .before .before .before .before)) _ (few .1))
+    (few .0, shifts-fit (s .args .t1) (now (s .args .events)) (now (s .args .out)) _ _ (at .inv) (k .before .loop2-test .taken) (cut k) _ (few .1))
 
 quiet-requires : tie.Need-quiet-requires Inv-loop μ-loop Inv-loop2 μ-loop2
-quiet-requires c κs = let at = c .before .before .before .before .before .before .before .before .before .before .before .before .before .before .before .before .before .before .before .before .before .before .loop2 in served-ranged (at .self) _ (at .inv .ahead .valid) (c .before .before .before .before .before .served .result) (c .before .before .before .before .before .served .ensures)
+quiet-requires c κs =
+    let r = c .before .before .before .before .before in
+    let at = turning (cut-timed (r .before .before .before .before)) .loop2 in
+    served-ranged (at .self) _ (at .inv .ahead .valid) (r .served .result) (r .served .ensures)
 
--- ---- the holds that are due are served, or none is
-caught : (c : tie.Joined2 Inv-loop μ-loop Inv-loop2 μ-loop2) → Caught (c .before .before .before .before .before .before .before .before .before .before .before .before .before .before .before .before .loop2 .self) (c .before .before .before .before .before .v .given .0 .0 .time) (c .before .before .before .before .before .before .before .before .before .before .before .before .before .before .before .before .loop2 .at) (c .before .before .before .before .before .before .before .before .before .before .before .before .before .before .before .before .loop2 .out) (c .if2 .self) (c .if2 .quiet) (c .if2 .at) (c .if2 .out)
+caught : (c : Served)
+    → let at = turning (cut-served c) .loop2 in
+    Caught (at .self) (taken (c .before .before .before) .time) (at .at) (at .out) (c .if2 .self) (c .if2 .quiet) (c .if2 .at) (c .if2 .out)
 caught c =
-    let at = c .before .before .before .before .before .before .before .before .before .before .before .before .before .before .before .before .loop2 in
+    let at = turning (cut-served c) .loop2 in
     ⊎-elim
     (λ w. caught-served (at .self) _ (at .at) (at .out) (w .1 .result) (w .1 .ensures) (w .8 ∙ w .4 .ensures .1) (w .9) (w .10 ∙ w .7 .ensures) (w .11 ∙ w .4 .ensures .0))
     (λ w. caught-none (at .self) _ (at .at) (at .out) (at .quiet) (at .inv .ahead .valid) (at .inv .none-due) (w .0 .left) (w .1) (w .2) (w .3) (w .4)) (c .if2 .came)
 
 until-requires : tie.Need-until-requires Inv-loop μ-loop Inv-loop2 μ-loop2
 until-requires c κs =
-    let s = c .before .before .before .before .before .before .before .before .before .before .before .before .before .before .before .before .before .before .before .before .before .before .before in
-    turn-waits (s .args .t1) (now (s .args .events)) (now (s .args .out)) _ _ (c .before .before .before .before .before .before .before .before .before .before .before .before .before .before .before .before .before .loop2 .inv) (c .before .before .before .before .before .before .before .before .before .before .before .before .before .before .before .before .loop2-test .taken) (cut (c .before .before .before .before .before .before .before .before .before .before .before .before .before .before .before)) _ (takes (c .before .before .before .before)) (caught (c .before))
+    let k = cut-served (c .before) in
+    let s = from-turning (turning k) in
+    turn-waits (s .args .t1) (now (s .args .events)) (now (s .args .out)) _ _ (turning k .loop2 .inv) (k .before .loop2-test .taken) (cut k) _
+    (takes (c .before .before .before .before)) (caught (c .before))
 
+-- ---- the line of a quote
 enum-told : tie.Need-enum-told Inv-loop μ-loop Inv-loop2 μ-loop2
 enum-told c = search needs
 
 enum-known-change : tie.Need-enum-known-change Inv-loop μ-loop Inv-loop2 μ-loop2
 enum-known-change c = search needs
 
--- ---- the line of a quote
-changes : (c : tie.After-known-told3 Inv-loop μ-loop Inv-loop2 μ-loop2)
-    → Changes (view (c .before .before .before .before .before .before .before .before .before .before .before .before .before .before .before .before .before .before .before .before .before .loop2 .self)) (read (take (c .before .before .before .before .before .before .before .before .before .before .before .before .before .before .before .before .before .before .before .cut .result - c .before .before .before .before .before .before .before .before .before .before .before .before .before .before .before .before .before .before .before .before .before .loop2 .from) (drop (c .before .before .before .before .before .before .before .before .before .before .before .before .before .before .before .before .before .before .before .before .before .loop2 .from) (now (c .before .before .before .before .before .before .before .before .before .before .before .before .before .before .before .before .before .before .before .before .before .before .before .before .before .before .before .args .events))))) (Change.Quote (c .before .change .given .0 .0))
-changes c = subst (Changes (view (c .before .before .before .before .before .before .before .before .before .before .before .before .before .before .before .before .before .before .before .before .before .loop2 .self)) (read (take (c .before .before .before .before .before .before .before .before .before .before .before .before .before .before .before .before .before .before .before .cut .result - c .before .before .before .before .before .before .before .before .before .before .before .before .before .before .before .before .before .before .before .before .before .loop2 .from) (drop (c .before .before .before .before .before .before .before .before .before .before .before .before .before .before .before .before .before .before .before .before .before .loop2 .from) (now (c .before .before .before .before .before .before .before .before .before .before .before .before .before .before .before .before .before .before .before .before .before .before .before .before .before .before .before .args .events)))))) (c .before .change .given .1) (takes (c .before .before .before .before .before .before .before .before) .changes)
+changes : (c : Quoted) → Changes (view (session (cut-quoted c))) (read (bytes (cut-quoted c))) (Change.Quote (placed c))
+changes c =
+    let k = cut-quoted c in
+    subst (Changes (view (session k)) (read (bytes k))) (c .before .change .given .1) (takes (c .before .before .before .before .before .before .before .before) .changes)
 
-below : (c : tie.After-known-told3 Inv-loop μ-loop Inv-loop2 μ-loop2) → c .before .change .given .0 .0 .place < 32
+below : (c : Quoted) → placed c .place < 32
 below c =
-    let s = c .before .before .before .before .before .before .before .before .before .before .before .before .before .before .before .before .before .before .before .before .before .loop2 in
-    let p = c .before .change .given .0 .0 in
-    omega (arith, named-below (p .quote .id) (view (s .self) .lines) (p .place) (changes c .1), view-length (s .inv .ahead .valid), s .inv .ahead .valid .few)
+    let at = turning (cut-quoted c) .loop2 in
+    let named = named-below (placed c .quote .id) (view (at .self) .lines) (placed c .place) (changes c .1) in
+    omega (arith, named, view-length (at .inv .ahead .valid), at .inv .ahead .valid .few)
 
 mul-l-2 : tie.Need-mul-l-2 Inv-loop μ-loop Inv-loop2 μ-loop2
 mul-l-2 c = omega (arith, below (c .before .before))
@@ -211,10 +299,12 @@ element-copy-out-l-2 c = below (c .before .before)
 
 quoted-line-requires : tie.Need-quoted-line-requires Inv-loop μ-loop Inv-loop2 μ-loop2
 quoted-line-requires c κs =
-    let s = c .before .before .before .before .before .before .before .before .before .before .before .before .before .before .before .before .before .before .before .before .before .before .before .before .loop2 in
-    let q = c .before .before .before .before .change .given .0 .0 in
-    let o = changes (c .before .before .before) in
-    quote-asks (s .self) (c .before .before .before .before .before .before .before .before .before .before .before .before .before .v .given .0 .0 .time) (q .quote) (q .place) _ (s .inv .ahead .valid) (o .1) (quote-in _ (q .quote) (o .0)) (caught (c .before .before .before .before .before .before .before .before) .served)
+    let q = c .before .before .before in
+    let r = q .before .before .before .before .before in
+    let at = turning (cut-quoted q) .loop2 in
+    let o = changes q in
+    quote-asks (at .self) (taken (r .before .before .before) .time) (placed q .quote) (placed q .place) _ (at .inv .ahead .valid) (o .1)
+    (quote-in _ (placed q .quote) (o .0)) (caught r .served)
 
 mul-m : tie.Need-mul-m Inv-loop μ-loop Inv-loop2 μ-loop2
 mul-m c = omega (arith, below (c .before .before .before .before))
@@ -222,31 +312,38 @@ mul-m c = omega (arith, below (c .before .before .before .before))
 element-set-from-m : tie.Need-element-set-from-m Inv-loop μ-loop Inv-loop2 μ-loop2
 element-set-from-m c = below (c .before .before .before .before)
 
+-- ---- an event that is taken: the next turn
 loop2-less-2 : tie.Need-loop2-less-2 Inv-loop μ-loop Inv-loop2 μ-loop2
-loop2-less-2 c = let k = cut (c .before .before .before .before .before .before .before .before .before .before .before .before .before .before .before .before .before) in omega (arith, k .on, k .inside)
+loop2-less-2 c = let k = cut (cut-served (c .before .before .before)) in omega (arith, k .on, k .inside)
 
 loop2-again-2 : tie.Need-loop2-again-2 Inv-loop μ-loop Inv-loop2 μ-loop2
 loop2-again-2 c =
-    let s = c .before .before .before .before .before .before .before .before .before .before .before .before .before .before .before .before .before .before .before .before .before .before .before .before .before in
-    let k = caught (c .before .before .before) in
-    let then = turn-taken (s .args .t1) (now (s .args .events)) (now (s .args .out)) _ _ (c .before .before .before .before .before .before .before .before .before .before .before .before .before .before .before .before .before .before .before .loop2 .inv) (c .before .before .before .before .before .before .before .before .before .before .before .before .before .before .before .before .before .before .loop2-test .taken) (cut (c .before .before .before .before .before .before .before .before .before .before .before .before .before .before .before .before .before)) _ (takes (c .before .before .before .before .before .before)) k in
+    let r = c .before .before .before in
+    let k = cut-served r in
+    let s = from-turning (turning k) in
+    let then =
+    turn-taken (s .args .t1) (now (s .args .events)) (now (s .args .out)) _ _ (turning k .loop2 .inv) (k .before .loop2-test .taken) (cut k) _
+    (takes (r .before .before .before)) (caught r) in
     let later = c .before .until .ensures in
+    let put = quoted-in (r .if2 .self) in
     ⊎-elim (λ w. then Change.Nothing (w .1 .given .1) (c .match2 .self) (w .2) _ later)
-    (λ w. then (Change.Quote (w .1 .given .0 .0)) (w .1 .given .1) (c .match2 .self) (w .7 ∙ ap (quoted-in (c .before .before .before .if2 .self) (w .1 .given .0 .0 .place)) (w .6 .ensures)) _ later)
+    (λ w. then (Change.Quote (w .1 .given .0 .0)) (w .1 .given .1) (c .match2 .self) (w .7 ∙ ap (put (w .1 .given .0 .0 .place)) (w .6 .ensures)) _ later)
     (c .match2 .came)
 
+-- ---- the end of the buffer
 same-length : tie.Need-same-length Inv-loop μ-loop Inv-loop2 μ-loop2
 same-length c =
-    let s = c .before .before .before .before .before .before .before in
+    let s = from-turning (c .before) in
     ahead-long (s .args .t1) (now (s .args .events)) (now (s .args .out)) (c .before .loop2 .inv .ahead)
 
 returns-2 : tie.Need-returns-2 Inv-loop μ-loop Inv-loop2 μ-loop2
 returns-2 c =
-    let s = c .before .before .before .before .before .before .before in
+    let s = from-turning (c .before) in
     let at = c .before .loop2 in
     let h = at .inv .ahead in
+    let asked = c .before .before .before .before in
     let last : at .from ≡ length (now (s .args .events)) = omega (arith, h .inside) in
-    let enough : room (length (now (s .args .events))) ≤ length (now (s .args .out)) = omega (arith, c .before .before .before .before .before .room .ensures, c .before .before .before .before .if1 .left) in (
+    let enough : room (length (now (s .args .events))) ≤ length (now (s .args .out)) = omega (arith, asked .before .room .ensures, asked .if1 .left) in (
       all-fed (s .args .t1) (now (s .args .events)) (now (s .args .out)) h last enough,
       all-into (s .args .t1) (now (s .args .events)) (now (s .args .out)) h last enough,
     )
