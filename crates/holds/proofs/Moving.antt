@@ -9,8 +9,8 @@ use Rattle.numbers.specs.Ranges.{Within}
 use Rattle.numbers.proofs.Ranges.{fits, within-more, within-add, within-sub}
 use Rattle.method.specs.Bounds.{bound}
 use Rattle.method.specs.Shift.{moved}
-use Rattle.line.specs.Asks.{Drawn}
-use Rattle.line.proofs.Drawing.{drawn-within}
+use Rattle.bounds.specs.Asks.{Drawn}
+use Rattle.bounds.proofs.Drawing.{drawn-within}
 use Rattle.holds.specs.Names.{Side, Up, Down, Terms, Market, Limits, Line}
 use Rattle.holds.specs.Asks.{Carried, Redrawable, Shiftable}
 

@@ -4,7 +4,7 @@ use lib.IntN.{ℤ, _+ℤ_, _-ℤ_}
 use Rattle.numbers.specs.Ranges.{Within}
 use Rattle.method.specs.Types.{steps}
 use Rattle.method.specs.Ranges.{FactorsIn, PriceIn, BookIn, Room}
-use Rattle.line.specs.Asks.{Drawn}
+use Rattle.bounds.specs.Asks.{Drawn}
 use Rattle.holds.specs.Names.{Terms, Market, Millionths, Limits, Price, Line}
 
 -- ---- pressure

@@ -6,8 +6,7 @@ ghost use Rattle.method.specs.Shift.{toward, moved, redrawn, ended, moved-line,
 ghost use Rattle.method.specs.Event.{with-book, quoted-line};
 ghost use Rattle.holds.specs.Asks.{Movable, Carried, Redrawable, Shiftable, Shifts, Pressed, raised-by, lowered-by};
 use crate::pressure;
-use line::bounds;
-use line::limits;
+use bounds::limits;
 use method::Book;
 use method::Hold;
 use method::Holds;

@@ -19,10 +19,10 @@ use Rattle.method.specs.Opening.{normal-price, corridor-half}
 use Rattle.method.specs.Ranges.{ContractIn}
 use Rattle.method.proofs.Opening.{normal-in}
 use Rattle.method.proofs.Rooms.{span-within}
+use Rattle.bounds.proofs.Drawing.{drawn-within}
 use Rattle.line.specs.Names.{Up, Down, Millionths, Contract, Terms, Market, Limits}
 use Rattle.method.specs.Types.{steps}
 use Rattle.line.specs.Asks.{Spanned}
-use Rattle.line.proofs.Drawing.{drawn-within}
 
 -- ---- a size
 pub turned-fits : {z : ℤ} → Within 100_000_000 z → SFits w64 (pos 0 -ℤ z)

@@ -1,6 +1,3 @@
-// One contract as it opens: its interest bounds, its corridor and its numbers.
+// One contract as it opens: its numbers, its corridor, or its refusal.
 
-pub mod bounds;
-pub mod limits;
 pub mod opening;
-mod rounding;

@@ -6,7 +6,7 @@ use Rattle.numbers.proofs.Ranges.{within-more}
 use Rattle.method.specs.Ranges.{Room}
 use Rattle.method.specs.declared.Line.{Line}
 use Rattle.method.proofs.Rooms.{span-within}
-use Rattle.line.specs.Asks.{Drawn}
+use Rattle.bounds.specs.Asks.{Drawn}
 
 module _ {left : ℕ} {l : Line} (r : Room left l) where
   pub room-centre : Within 900_000_000 (l .market .centre .0)

@@ -7,7 +7,7 @@ ghost use Rattle.method.specs.Event.{placed};
 ghost use Rattle.method.specs.Report.{market-bounds, interest-bounds, hold-report, line-report};
 ghost use Rattle.method.specs.Program.{closing-row};
 ghost use Rattle.method.specs.Ranges.{HoldIn, Room};
-ghost use Rattle.line.specs.Asks.{Drawn};
+ghost use Rattle.bounds.specs.Asks.{Drawn};
 use method::BothBounds;
 use method::Closing;
 use method::Hold;
@@ -39,8 +39,8 @@ fn market_bounds(centre: Steps, half: Steps) -> BothBounds
     requires { ⌜ Within 900_000_000 (centre .0) × Within 900_000_000 (half .0) ⌝ }
     ensures { λ r. ⌜ r ≡ market-bounds centre half ⌝ }
 {
-    let upper = line::bounds::market_bound(Side::Up, centre, half);
-    let lower = line::bounds::market_bound(Side::Down, centre, half);
+    let upper = bounds::market_bound(Side::Up, centre, half);
+    let lower = bounds::market_bound(Side::Down, centre, half);
     BothBounds {
         upper: upper,
         lower: lower,
@@ -53,8 +53,8 @@ fn interest_bounds(l: Line) -> BothBounds
 {
     let t = l.terms;
     let m = l.market;
-    let upper = line::bounds::bound(Side::Up, t, m);
-    let lower = line::bounds::bound(Side::Down, t, m);
+    let upper = bounds::bound(Side::Up, t, m);
+    let lower = bounds::bound(Side::Down, t, m);
     BothBounds {
         upper: upper,
         lower: lower,

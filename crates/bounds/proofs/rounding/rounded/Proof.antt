@@ -1,8 +1,8 @@
--- `line::rounding::rounded` meets its contract. Assumes nothing.
+-- `bounds::rounding::rounded` meets its contract. Assumes nothing.
 use borrow.Author.Needs.{needs}
 use mathlib.Core.Path.{_∙_}
-use Rattle.line.proofs.rounding.rounded.Statement.{statement}
-use Rattle.line.proofs.rounding.rounded.Tie as tie
+use Rattle.bounds.proofs.rounding.rounded.Statement.{statement}
+use Rattle.bounds.proofs.rounding.rounded.Tie as tie
 
 enum-told : tie.Need-enum-told
 enum-told c = search needs

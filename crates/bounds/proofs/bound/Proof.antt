@@ -1,10 +1,10 @@
--- `line::bounds::bound` meets its contract. Assumes nothing.
+-- `bounds::bound` meets its contract. Assumes nothing.
 use borrow.Author.Needs.{needs}
 use mathlib.Core.Path.{_∙_}
 use Rattle.method.specs.Bounds.{bound}
-use Rattle.line.proofs.Drawing.{drawn-factor, drawn-bound}
-use Rattle.line.proofs.bounds.bound.Statement.{statement}
-use Rattle.line.proofs.bounds.bound.Tie as tie
+use Rattle.bounds.proofs.Drawing.{drawn-factor, drawn-bound}
+use Rattle.bounds.proofs.bound.Statement.{statement}
+use Rattle.bounds.proofs.bound.Tie as tie
 
 factor-requires : tie.Need-factor-requires
 factor-requires c κs = search needs

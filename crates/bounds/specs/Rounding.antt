@@ -2,7 +2,7 @@
 use Prim.Native.Nat.{ℕ}
 use lib.IntN.{ℤ}
 use Rattle.numbers.specs.Rounding.{floor, ceiling}
-use Rattle.line.specs.Names.{Side, Up, Down}
+use Rattle.bounds.specs.Names.{Side, Up, Down}
 
 abbrev pub rounded : Side → ℤ → ℕ → ℤ
 rounded Up n d = ceiling n d

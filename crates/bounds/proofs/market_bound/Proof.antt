@@ -1,8 +1,8 @@
--- `line::bounds::market_bound` meets its contract. Assumes nothing.
+-- `bounds::market_bound` meets its contract. Assumes nothing.
 use borrow.Author.Needs.{needs}
-use Rattle.line.proofs.Drawing.{sums}
-use Rattle.line.proofs.bounds.market_bound.Statement.{statement}
-use Rattle.line.proofs.bounds.market_bound.Tie as tie
+use Rattle.bounds.proofs.Drawing.{sums}
+use Rattle.bounds.proofs.market_bound.Statement.{statement}
+use Rattle.bounds.proofs.market_bound.Tie as tie
 
 enum-told : tie.Need-enum-told
 enum-told c = search needs

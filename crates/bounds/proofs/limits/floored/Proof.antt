@@ -1,4 +1,4 @@
--- `line::limits::floored` meets its contract. Assumes nothing.
+-- `bounds::limits::floored` meets its contract. Assumes nothing.
 use borrow.Author.Needs.{needs}
 use mathlib.Core.Path.{_≡_}
 use mathlib.Core.Bool.{true, false}
@@ -6,8 +6,8 @@ use lib.IntN.{pos}
 use lib.Signed.{ltZ}
 use Rattle.numbers.proofs.Machine.{tests}
 use Rattle.method.specs.Opening.{floored}
-use Rattle.line.proofs.limits.floored.Statement.{statement}
-use Rattle.line.proofs.limits.floored.Tie as tie
+use Rattle.bounds.proofs.limits.floored.Statement.{statement}
+use Rattle.bounds.proofs.limits.floored.Tie as tie
 
 low : (c : tie.After-t5) → ltZ (c .before .before .before .before .before .args .k .lower .0) (pos 1) ≡ true
 low c = search (needs, tests)

@@ -1,16 +1,18 @@
-// Market bounds and interest bounds of a line.
+// What every limit is held against: market bounds and interest bounds of a line, and the floor of one step.
 
 ghost use mathlib.Core.Path.{_≡_};
 ghost use Prim.Native.Nat.{_≤_};
 ghost use Rattle.numbers.specs.Ranges.{Within};
 ghost use Rattle.method.specs.Bounds.{market-bound, factor, interest, bound};
-ghost use Rattle.line.specs.Asks.{Drawn};
-use crate::rounding;
+ghost use Rattle.bounds.specs.Asks.{Drawn};
 use method::Market;
 use method::Side;
 use method::Terms;
 use numbers::Billionths;
 use numbers::Steps;
+
+pub mod limits;
+pub mod rounding;
 
 // Centre plus or minus a level's half-width.
 pub fn market_bound(side: Side, centre: Steps, half: Steps) -> Steps

@@ -1,9 +1,9 @@
--- `line::bounds::interest` meets its contract. Assumes nothing.
+-- `bounds::interest` meets its contract. Assumes nothing.
 use borrow.Author.Needs.{needs}
 use mathlib.Core.Path.{_∙_}
-use Rattle.line.proofs.Drawing.{products, interest-is}
-use Rattle.line.proofs.bounds.interest.Statement.{statement}
-use Rattle.line.proofs.bounds.interest.Tie as tie
+use Rattle.bounds.proofs.Drawing.{products, interest-is}
+use Rattle.bounds.proofs.interest.Statement.{statement}
+use Rattle.bounds.proofs.interest.Tie as tie
 
 cast-product : tie.Need-cast-product
 cast-product c = search needs

@@ -11,9 +11,9 @@ use Rattle.numbers.proofs.Ranges.{fits, within-add, within-sub, within-mul, wit
 use Rattle.numbers.proofs.Machine.{cast-back}
 use Rattle.method.specs.Bounds.{market-bound, factor, interest, bound}
 use Rattle.method.proofs.Rooms.{factor-in, interest-within}
-use Rattle.line.specs.Names.{Side, Up, Down, Terms, Market}
-use Rattle.line.specs.Rounding.{rounded}
-use Rattle.line.specs.Asks.{Drawn}
+use Rattle.bounds.specs.Names.{Side, Up, Down, Terms, Market}
+use Rattle.bounds.specs.Rounding.{rounded}
+use Rattle.bounds.specs.Asks.{Drawn}
 
 pub sum-fits : {x y : ℤ} → Within 900_000_000 x → Within 900_000_000 y → SFits w64 (x +ℤ y)
 sum-fits v w = fits (within-add v w) (lit< tt)

@@ -1,8 +1,8 @@
--- `line::bounds::factor` meets its contract. Assumes nothing.
+-- `bounds::factor` meets its contract. Assumes nothing.
 use borrow.Author.Needs.{needs}
 use Rattle.method.specs.Bounds.{factor}
-use Rattle.line.proofs.bounds.factor.Statement.{statement}
-use Rattle.line.proofs.bounds.factor.Tie as tie
+use Rattle.bounds.proofs.factor.Statement.{statement}
+use Rattle.bounds.proofs.factor.Tie as tie
 
 enum-told : tie.Need-enum-told
 enum-told c = search needs
