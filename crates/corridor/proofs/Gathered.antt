@@ -1,6 +1,6 @@
 -- The ids of a session's lines, gathered row by row into an array. Assumes nothing.
 use mathlib.Core.Path.{_≡_, refl, sym, ap, _∙_}
-use mathlib.Core.List.{List, [], _∷_, _++_, map, map-append}
+use mathlib.Core.List.{List, [], _∷_, _++_, map-append}
 use Prim.Native.Nat.{ℕ, _+_, _-_, _<_}
 use native.Mathlib.Numerals.{add-one}
 use native.Mathlib.Omega.{arith}
@@ -10,10 +10,11 @@ use lib.Seq.{take-suc, take-suc-set}
 use Rattle.method.specs.Types.{State, blank}
 use Rattle.method.specs.Opening.{ids}
 use Rattle.method.specs.Pressure.{judge}
-use Rattle.method.specs.Shift.{moved-line, shift-line, shifted, onward, after}
+use Rattle.method.specs.Shift.{shifted, onward, after}
 use Rattle.method.specs.Event.{quoted-line, quoted, applied, Answer, accepted, refused, next}
 use Rattle.method.proofs.Demands.{by-cond}
-use Rattle.corridor.specs.Names.{Millionths, Seconds, Side, Line, Quote, Event, Damaged, Tick, Quoted, ShiftLine}
+use Rattle.method.proofs.Events.{ids-shifted}
+use Rattle.corridor.specs.Names.{Millionths, Line, Quote, Event, Damaged, Tick, Quoted, ShiftLine}
 
 -- the first i places have the ids of the first i rows
 pub record Gathered (rows : List Line) (i : ℕ) (got : List ℕ) : Type 0 where
@@ -38,11 +39,6 @@ pub gathered-all : (rows : List Line) (n i : ℕ) (got : List ℕ) → i ≡ n �
 gathered-all rows n i got e o = ap (λ (k : ℕ). take k got) (sym e) ∙ o .same ∙ ap (λ (k : ℕ). ids (take k rows)) e
 
 -- ---- ids stay
-ids-shifted : (near : Millionths) (left : ℕ) (side : Side) (now : Seconds) (ls : List Line) → ids (map (shift-line near left side now) ls) ≡ ids ls
-unfolding shift-line judge moved-line
-ids-shifted near left side now [] = refl
-ids-shifted near left side now (l ∷ ls) = ap (λ (js : List ℕ). l .terms .id ∷ js) (ids-shifted near left side now ls)
-
 pub ids-after : (cs : List ShiftLine) (s : State) → ids (after cs s .lines) ≡ ids (s .lines)
 unfolding after shifted
 ids-after [] s = refl

@@ -1,11 +1,13 @@
 -- A loop that changes each of the first rows of an array, and a row that is read by its place. Assumes nothing.
-use mathlib.Core.Path.{_≡_, refl, ap}
+use mathlib.Core.Path.{_≡_, refl, ap, subst}
 use mathlib.Core.List.{List, [], _∷_, _++_, map}
-use Prim.Native.Nat.{ℕ, zero, suc, _≤_, _<_}
+use Prim.Native.Nat.{ℕ, zero, suc, _<_}
 use native.Mathlib.Omega.{arith}
 use lib.ListN.{length, getD, set, take, drop}
+use lib.Seq.{length-take-le, getD-take}
 use Rattle.method.specs.Types.{blank}
-use Rattle.method.specs.Ranges.{Every, Room}
+use Rattle.method.specs.Ranges.{Room}
+use Rattle.method.proofs.Every.{every-at}
 use Rattle.corridor.specs.declared.Session.{Session}
 use Rattle.corridor.specs.View.{Ranged}
 
@@ -38,12 +40,7 @@ module _ {A : Type 0} (f : A → A) where
   changed-view (suc n) (x ∷ xs) = ap (λ (l : List A). f x ∷ l) (changed-view n xs)
 
 -- ---- a row of a session
-every-at : {A : Type 0} (P : A → Type 0) (i n : ℕ) (xs : List A) (d : A) → Every P (take n xs) → i < n → n ≤ length xs → P (getD xs i d)
-unfolding Every
-every-at P i zero xs d ps h g = absurd (omega arith)
-every-at P i (suc n) [] d ps h g = absurd (omega arith)
-every-at P zero (suc n) (x ∷ xs) d ps h g = ps .0
-every-at P (suc i) (suc n) (x ∷ xs) d ps h g = every-at P i n xs d (ps .1) (omega arith) (omega arith)
-
 pub room-at : {s : Session} (i : ℕ) → Ranged s → i < s .count → Room (s .left) (getD (s .lines) i blank)
-room-at {s} i v h = every-at (Room (s .left)) i (s .count) (s .lines) blank (v .sane .rooms) h (omega (arith, v .full, v .few))
+room-at {s} i v h =
+    let seen = every-at (Room (s .left)) (take (s .count) (s .lines)) blank i (v .sane .rooms) (omega (arith, length-take-le (s .count) (s .lines) (omega (arith, v .full, v .few)))) in
+    subst (Room (s .left)) (getD-take (s .count) (s .lines) i blank h) seen

@@ -1,9 +1,10 @@
 -- Facts of every element of a list, and what the quote of one line keeps of every line. Assumes nothing.
 use mathlib.Core.Bool.{Bool, true, false, cond}
 use mathlib.Core.List.{List, [], _∷_, _++_, map}
-use Prim.Native.Nat.{ℕ, zero, suc}
+use Prim.Native.Nat.{ℕ, zero, suc, _<_}
+use native.Mathlib.Omega.{arith}
 use lib.Dec.{eqb}
-use lib.ListN.{getD}
+use lib.ListN.{length, getD}
 use Rattle.method.specs.Types.{Millionths, Line, Quote}
 use Rattle.method.specs.Event.{quoted-line, quoted}
 use Rattle.method.specs.Ranges.{Every}
@@ -23,6 +24,13 @@ module _ {A : Type 0} where
   unfolding Every
   every-all P h [] = tt
   every-all P h (x ∷ xs) = (h x, every-all P h xs)
+
+  -- at a place of the list
+  pub every-at : (P : A → Type 0) (xs : List A) (d : A) (i : ℕ) → Every P xs → i < length xs → P (getD xs i d)
+  unfolding Every
+  every-at P [] d i ps h = absurd (omega arith)
+  every-at P (x ∷ xs) d zero ps h = ps .0
+  every-at P (x ∷ xs) d (suc i) ps h = every-at P xs d i (ps .1) (omega arith)
 
   -- at any place, where what is read past the end has it too
   pub every-else : (P : A → Type 0) (xs : List A) (d : A) (i : ℕ) → Every P xs → P d → P (getD xs i d)

@@ -9,8 +9,8 @@ use borrow.Author.Tests.{eq-eqb, ne-eqb, lt-ltb, le-ltb}
 use lib.Dec.{eqb, ltb}
 use lib.ListN.{length, getD, drop}
 use lib.Seq.{drop-cons, drop-length}
-use Rattle.method.specs.Ranges.{Every}
 use Rattle.method.specs.Sound.{Distinct}
+use Rattle.method.proofs.Every.{every-at}
 use Rattle.verdict.specs.Names.{Event, Damaged, Tick, Quoted}
 use Rattle.verdict.specs.Screened.{slot-of, place-of}
 
@@ -56,19 +56,13 @@ module _ (id : ℕ) (ids : List ℕ) {place : ℕ} (e : place ≡ place-of id id
   found-one h = lt-ltb (place-of id ids) (length ids) (omega arith)
 
 -- ---- a guess
-every-at : (P : ℕ → Type 0) (ids : List ℕ) (p : ℕ) → Every P ids → p < length ids → P (getD ids p 0)
-unfolding Every
-every-at P [] p h g = absurd (omega arith)
-every-at P (j ∷ ids) zero h g = h .0
-every-at P (j ∷ ids) (suc p) h g = every-at P ids p (h .1) (omega arith)
-
 -- where no id stands twice, the place that has it is the first
 pub guessed : (id : ℕ) (ids : List ℕ) (p : ℕ) → Distinct ids → p < length ids → getD ids p 0 ≡ id → p ≡ place-of id ids
 unfolding Distinct place-of
 guessed id [] p d h e = absurd (omega arith)
 guessed id (j ∷ ids) zero d h e = rw (eq-eqb j id e)
 guessed id (j ∷ ids) (suc p) d h e =
-    rw (ne-eqb j id (λ s. every-at (λ k. k ≡ j → ⊥) ids p (d .0) (omega arith) (e ∙ sym s))) (ap suc (guessed id ids p (d .1) (omega arith) e))
+    rw (ne-eqb j id (λ s. every-at (λ k. k ≡ j → ⊥) ids 0 p (d .0) (omega arith) (e ∙ sym s))) (ap suc (guessed id ids p (d .1) (omega arith) e))
 
 pub slot-below : (e : Event) → slot-of e < 256
 slot-below Damaged = omega arith
