@@ -1,7 +1,7 @@
--- What the questions answer of the line at an id's place. Assumes nothing.
+-- What the questions answer at the end of a walk over the lines: at the line that has the id, or past all of them. Assumes nothing.
 use mathlib.Core.Path.{_≡_}
 use mathlib.Core.Bool.{false}
-use Prim.Native.Nat.{ℕ}
+use Prim.Native.Nat.{ℕ, _≤_, _<_}
 use lib.ListN.{getD}
 use Rattle.method.specs.Types.{blank}
 use Rattle.method.specs.Opening.{known}
@@ -10,32 +10,38 @@ use Rattle.method.specs.Report.{line-report, report}
 use Rattle.corridor.specs.Names.{Steps, EventReason, LimitsAnswer, PlaceAnswer, ReportAnswer}
 use Rattle.corridor.specs.declared.Session.{Session}
 use Rattle.corridor.specs.View.{view, Valid}
-use Rattle.corridor.proofs.Named.{Named, named-known, walk-line}
+use Rattle.corridor.proofs.Named.{Named, named-known, Walk, walk-met, walk-all, walk-line}
 
--- ---- an id at a place
-module _ (s : Session) (id p : ℕ) (v : Valid s) (h : Named id (view s .lines) p) where
-  pub limits-met : LimitsAnswer.Standing (getD (s .lines) p blank .limits) ≡ limits id (view s)
+-- ---- the line at i has the id
+module _ (s : Session) (id i : ℕ) (v : Valid s) (w : Walk s id i) (g : i < s .count) (e : getD (s .lines) i blank .terms .id ≡ id) where
+  here : Named id (view s .lines) i
+  here = walk-met s id i v w g e
+
+  pub limits-met : LimitsAnswer.Standing (getD (s .lines) i blank .limits) ≡ limits id (view s)
   unfolding limits
-  limits-met = rw (named-known id (view s .lines) p h, walk-line s id p v h)
+  limits-met = rw (named-known id (view s .lines) i here, walk-line s id i v here)
 
-  pub place-met : (price : Steps) → placed (getD (s .lines) p blank .limits) price ≡ place id price (view s)
+  pub place-met : (price : Steps) → placed (getD (s .lines) i blank .limits) price ≡ place id price (view s)
   unfolding place
-  place-met price = rw (named-known id (view s .lines) p h, walk-line s id p v h)
+  place-met price = rw (named-known id (view s .lines) i here, walk-line s id i v here)
 
-  pub report-met : ReportAnswer.Standing (line-report (s .hold) (s .left) (s .clock) (getD (s .lines) p blank)) ≡ report id (view s)
+  pub report-met : ReportAnswer.Standing (line-report (s .hold) (s .left) (s .clock) (getD (s .lines) i blank)) ≡ report id (view s)
   unfolding report
-  report-met = rw (named-known id (view s .lines) p h, walk-line s id p v h)
+  report-met = rw (named-known id (view s .lines) i here, walk-line s id i v here)
 
--- ---- an id that no line has
-module _ (s : Session) (id : ℕ) (h : known id (view s .lines) ≡ false) where
+-- ---- no line has it
+module _ (s : Session) (id i : ℕ) (v : Valid s) (w : Walk s id i) (g : s .count ≤ i) where
+  nowhere : known id (view s .lines) ≡ false
+  nowhere = walk-all s id i v w g
+
   pub limits-unmet : LimitsAnswer.Refused EventReason.UnknownId ≡ limits id (view s)
   unfolding limits
-  limits-unmet = rw h
+  limits-unmet = rw nowhere
 
   pub place-unmet : (price : Steps) → PlaceAnswer.Refused EventReason.UnknownId ≡ place id price (view s)
   unfolding place
-  place-unmet price = rw h
+  place-unmet price = rw nowhere
 
   pub report-unmet : ReportAnswer.Refused EventReason.UnknownId ≡ report id (view s)
   unfolding report
-  report-unmet = rw h
+  report-unmet = rw nowhere

@@ -75,15 +75,15 @@ pub record Unnamed (id : ℕ) (ls : List Line) (k : ℕ) : Type 0 where
   pub rest : known id (drop k ls) ≡ known id ls
   pub on : (p : ℕ) → Named id (drop k ls) p → Named id ls (k + p)
 
-pub unnamed-start : (id : ℕ) (ls : List Line) → Unnamed id ls 0
+unnamed-start : (id : ℕ) (ls : List Line) → Unnamed id ls 0
 unnamed-start id ls = record { rest = refl; on = λ p h. subst (Named id ls) (omega arith) h }
 
 module _ (id : ℕ) (ls : List Line) (k : ℕ) (u : Unnamed id ls k) where
-  pub unnamed-met : (l : Line) → drop k ls ≡ l ∷ drop (suc k) ls → l .terms .id ≡ id → Named id ls k
+  unnamed-met : (l : Line) → drop k ls ≡ l ∷ drop (suc k) ls → l .terms .id ≡ id → Named id ls k
   unfolding Named
   unnamed-met l e h = subst (Named id ls) (omega arith) (u .on 0 (rw e h))
 
-  pub unnamed-turn : (l : Line) → drop k ls ≡ l ∷ drop (suc k) ls → (l .terms .id ≡ id → ⊥) → Unnamed id ls (suc k)
+  unnamed-turn : (l : Line) → drop k ls ≡ l ∷ drop (suc k) ls → (l .terms .id ≡ id → ⊥) → Unnamed id ls (suc k)
   unfolding known Named
   unnamed-turn l e h =
       record {
@@ -91,23 +91,34 @@ module _ (id : ℕ) (ls : List Line) (k : ℕ) (u : Unnamed id ls k) where
         on = λ p g. subst (Named id ls) (omega arith) (u .on (suc p) (rw e (h, g)));
       }
 
-  pub unnamed-all : drop k ls ≡ [] → known id ls ≡ false
+  unnamed-all : drop k ls ≡ [] → known id ls ≡ false
   unfolding known
   unnamed-all e = sym (u .rest) ∙ ap (known id) e
 
--- ---- the walk over a session's lines
-module _ (s : Session) (id i : ℕ) (v : Valid s) (u : Unnamed id (view s .lines) i) where
+-- ---- the walk over a session's lines: i of them are passed, and none has the id
+pub record Walk (s : Session) (id i : ℕ) : Type 0 where
+  pub inside : i ≤ s .count
+  pub unnamed : Unnamed id (view s .lines) i
+
+pub walk-start : (s : Session) (id : ℕ) → Walk s id 0
+walk-start s id = record { inside = omega arith; unnamed = unnamed-start id (view s .lines) }
+
+module _ (s : Session) (id i : ℕ) (v : Valid s) (w : Walk s id i) where
   room : s .count ≤ length (s .lines)
   room = omega (arith, v .few, v .full)
 
   pub walk-met : i < s .count → getD (s .lines) i blank .terms .id ≡ id → Named id (view s .lines) i
-  walk-met g h = unnamed-met id (view s .lines) i u (getD (s .lines) i blank) (passing i (s .count) (s .lines) blank g room) h
+  walk-met g h = unnamed-met id (view s .lines) i (w .unnamed) (getD (s .lines) i blank) (passing i (s .count) (s .lines) blank g room) h
 
-  pub walk-turn : i < s .count → (getD (s .lines) i blank .terms .id ≡ id → ⊥) → Unnamed id (view s .lines) (i + 1)
-  walk-turn g h = rw add-one (unnamed-turn id (view s .lines) i u (getD (s .lines) i blank) (passing i (s .count) (s .lines) blank g room) h)
+  pub walk-turn : i < s .count → (getD (s .lines) i blank .terms .id ≡ id → ⊥) → Walk s id (i + 1)
+  walk-turn g h =
+      let next = unnamed-turn id (view s .lines) i (w .unnamed) (getD (s .lines) i blank) (passing i (s .count) (s .lines) blank g room) h in
+      record { inside = omega arith; unnamed = rw add-one next }
 
-  pub walk-all : i ≡ s .count → known id (view s .lines) ≡ false
-  walk-all e = unnamed-all id (view s .lines) i u (rw e (all-passed (s .count) (s .lines) room))
+  pub walk-all : s .count ≤ i → known id (view s .lines) ≡ false
+  walk-all g =
+      let last : i ≡ s .count = omega (arith, w .inside) in
+      unnamed-all id (view s .lines) i (w .unnamed) (rw last (all-passed (s .count) (s .lines) room))
 
 -- the line of an id, in the array
 pub walk-line : (s : Session) (id p : ℕ) → Valid s → Named id (view s .lines) p → line-of id (view s .lines) ≡ getD (s .lines) p blank

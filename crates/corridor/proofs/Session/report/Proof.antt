@@ -1,10 +1,9 @@
 -- `corridor::Session::report` meets its contract. Assumes nothing.
 use mathlib.Core.Path.{ap, _∙_}
-use Prim.Native.Nat.{_-_, _≤_}
+use Prim.Native.Nat.{_-_}
 use native.Mathlib.Omega.{arith}
 use Rattle.corridor.specs.Names.{ReportAnswer}
-use Rattle.corridor.specs.View.{view}
-use Rattle.corridor.proofs.Named.{Unnamed, unnamed-start, walk-met, walk-turn, walk-all}
+use Rattle.corridor.proofs.Named.{Walk, walk-start, walk-turn}
 use Rattle.corridor.proofs.Views.{ranged}
 use Rattle.corridor.proofs.Rows.{room-at}
 use Rattle.corridor.proofs.Asking.{report-met, report-unmet}
@@ -12,13 +11,13 @@ use Rattle.corridor.proofs.Session.report.Statement.{statement}
 use Rattle.corridor.proofs.Session.report.Tie as tie
 
 abbrev Inv-loop : tie.InvT-loop
-Inv-loop id self n i₀ i = (i ≤ self .count) × Unnamed id (view self .lines) i
+Inv-loop id self n i₀ i = Walk self id i
 
 abbrev μ-loop : tie.MeasureT-loop
 μ-loop id self n i₀ i = self .count - i
 
 loop-holds : tie.Need-loop-holds Inv-loop μ-loop
-loop-holds c = (omega arith, unnamed-start (c .args .id) (view (c .args .t1) .lines))
+loop-holds c = walk-start (c .args .t1) (c .args .id)
 
 mul-l : tie.Need-mul-l Inv-loop μ-loop
 mul-l c = let v = c .before .before .pre in omega (arith, v .few)
@@ -36,7 +35,7 @@ returns : tie.Need-returns Inv-loop μ-loop
 returns c =
     let start = c .before .before .before .before .before .before .before .before .before in
     let at = c .before .before .before .before .before .before .before .before .loop in
-    ap ReportAnswer.Standing (c .line-report .ensures) ∙ report-met (start .args .t1) (start .args .id) (at .i) (start .pre) (walk-met (start .args .t1) (start .args .id) (at .i) (start .pre) (at .inv .1) (c .before .before .before .before .before .before .before .loop-test .taken) (c .before .before .before .if1 .taken))
+    ap ReportAnswer.Standing (c .line-report .ensures) ∙ report-met (start .args .t1) (start .args .id) (at .i) (start .pre) (at .inv) (c .before .before .before .before .before .before .before .loop-test .taken) (c .before .before .before .if1 .taken)
 
 add-i : tie.Need-add-i Inv-loop μ-loop
 add-i c = let v = c .before .before .before .before .before .before .pre in omega (arith, v .few)
@@ -48,13 +47,13 @@ loop-again : tie.Need-loop-again Inv-loop μ-loop
 loop-again c =
     let start = c .before .before .before .before .before .before in
     let at = c .before .before .before .before .before .loop in
-    (omega arith, walk-turn (start .args .t1) (start .args .id) (at .i) (start .pre) (at .inv .1) (omega arith) (c .if1 .left))
+    walk-turn (start .args .t1) (start .args .id) (at .i) (start .pre) (at .inv) (omega arith) (c .if1 .left)
 
 returns-2 : tie.Need-returns-2 Inv-loop μ-loop
 returns-2 c =
     let start = c .before .before in
     let at = c .before .loop in
-    report-unmet (start .args .t1) (start .args .id) (walk-all (start .args .t1) (start .args .id) (at .i) (start .pre) (at .inv .1) (omega arith))
+    report-unmet (start .args .t1) (start .args .id) (at .i) (start .pre) (at .inv) (omega arith)
 
 pub report-spec : {M : Type 1} → statement M
 report-spec =
