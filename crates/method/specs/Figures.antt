@@ -1,10 +1,9 @@
 -- "Figures on each side of the line" (paper 01): every starred figure, in one table under one claim. Assumes nothing.
 use mathlib.Core.Path.{_≡_, refl}
-use mathlib.Core.Bool.{Bool, true, false}
 use mathlib.Core.List.{List, [], _∷_, map}
 use Prim.Native.Nat.{ℕ}
 use lib.IntN.{ℤ, pos, negsuc}
-use Rattle.method.specs.Types.{Up, Down, Key, Contract, Line, LineAnswer, steps, millionths}
+use Rattle.method.specs.Types.{Key, Contract, millionths}
 use Rattle.method.specs.Wire.{word, signed, bit}
 use Rattle.method.specs.Refusals.{table-number, event-number}
 use Rattle.method.specs.Growth.{between-keys, rate-from, rate-by-keys, rate-at, exponent, term, series, up-factor, down-factor, factors-of}
@@ -47,37 +46,14 @@ use Rattle.method.specs.Shift.{moved, redrawn, moved-line, shift-line, s
 use Rattle.method.specs.Event.{read-tick, read-quote, read, in-session, not-crossed, verdict, quoted-line, quoted, applied, next}
 use Rattle.method.specs.Search.{due-of, ahead, sooner, passed, earliest, in-time, next-due, serve, answer, run, finally}
 use Rattle.method.specs.Program.{rows-of, rows-of-all, closing-row, session-rows, pieces, rows-after, program, row-numbers, numbers-of}
-use Rattle.method.specs.Inputs.{sample, tick, empty, bid, Figure}
+use Rattle.method.specs.Inputs.{sample, tick, empty, bid, contract, line, raw-lower, of-line, bounds, both-limits, shifted-down, Figure, figure}
 
 -- ---- inputs
 -- "Keys (30; 100,000), (90; 70,001)"
 abbrev two-keys : List Key
 two-keys = record { days = 30; rate = millionths 100_000 } ∷ record { days = 90; rate = millionths 70_001 } ∷ []
 
--- a contract whose rates, spot and least price give the half-width 100 (or 30), with the exponent that the key gives it at its 365 days
-abbrev contract : ℤ → ℤ → ℕ → ℕ → ℕ → Contract
-contract price least rate width flags =
-    record {
-      price = steps price;
-      spot = steps price;
-      least = steps least;
-      rate1 = millionths rate;
-      rate2 = millionths rate;
-      rate3 = millionths rate;
-      width = millionths width;
-      days = 365;
-      id = 7;
-      flags = flags;
-    }
-
-abbrev key : ℕ → List Key
-key rate = record { days = 365; rate = millionths rate } ∷ []
-
--- opened with shift share 500,000, as the first line
-abbrev line : ℕ → Contract → LineAnswer
-line rate c = open-line (millionths 500_000) (key rate) [] c
-
--- "y 100,000,000" is rate 100,000 at 365 days
+-- "y 100,000,000" is rate 100,000 at 365 days; rate, spot and least price give the half-width 100, or 30
 abbrev thousand : ℕ → Contract
 thousand width = contract (pos 1_000) (pos 1) 100_000 width 0
 
@@ -87,37 +63,7 @@ minus-ten = contract (negsuc 9) (pos 1_000) 100_000 500_000 1
 abbrev thirty : Contract
 thirty = contract (pos 30) (pos 1) 1_000_000 900_000 0
 
--- ---- what is read off an answer
-abbrev of-line : (Line → List ℤ) → LineAnswer → List ℤ
-of-line f (LineAnswer.Opened l) = f l
-of-line f (LineAnswer.Refused why) = pos (table-number why) ∷ []
-
-abbrev bounds : Line → List ℤ
-bounds l = bound Up (l .terms) (l .market) ∷ bound Down (l .terms) (l .market) ∷ []
-
-abbrev both-limits : Line → List ℤ
-both-limits l = l .limits .upper .0 ∷ l .limits .lower .0 ∷ []
-
-abbrev flag : Bool → ℤ
-flag true = pos 1
-flag false = pos 0
-
--- half-move, and after one down shift: centre, half-width, lower bound, lower limit, frozen
-abbrev shifted-down : Line → List ℤ
-shifted-down l =
-    let n : Line = moved-line Down l in
-    l .terms .halfmove .0
-    ∷ n .market .centre .0 ∷ n .market .half1 .0 ∷ bound Down (n .terms) (n .market) ∷ n .limits .lower .0 ∷ flag (n .limits .frozen) ∷ []
-
--- the raw lower limit, before it is held against its bound
-abbrev raw-lower : ℕ → Contract → List ℤ
-raw-lower rate c =
-    corridor (c .width) (terms-of (millionths 500_000) (exponent (rate-at (key rate) (c .days)) (c .days)) c) (market-of c) .lower .0 ∷ []
-
 -- ---- the table: what the paper prints, and what the definitions give
-abbrev figure : List ℤ → List ℤ → Figure
-figure printed computed = record { printed = printed; computed = computed }
-
 abbrev pub starred : List Figure
 starred =
     -- "Keys (30; 100,000), (90; 70,001): days 31 gives 99,500, days 30 gives 100,000, days 10 gives 100,000, days 91 gives 70,001."

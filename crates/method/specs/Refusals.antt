@@ -59,7 +59,7 @@ event-said EventAnswer.Accepted = record { number = 0; values = [] }
 event-said (EventAnswer.Refused why) = record { number = event-number why; values = [] }
 
 -- no 0, yes 1
-abbrev mark : Bool → ℤ
+abbrev pub mark : Bool → ℤ
 mark false = pos 0
 mark true = pos 1
 
