@@ -1,7 +1,7 @@
 -- A buffer of events fed to a session, and their answers as rows of numbers in a lent buffer.
 use mathlib.Core.Bool.{cond}
 use mathlib.Core.List.{List}
-use Prim.Native.Nat.{ℕ, _+_, _-_}
+use Prim.Native.Nat.{ℕ}
 use lib.Dec.{ltb}
 use lib.IntN.{ℤ}
 use lib.ListN.{length}
@@ -9,6 +9,7 @@ use Rattle.method.specs.Types.{State}
 use Rattle.method.specs.Search.{run, finally}
 use Rattle.method.specs.Program.{rows-of-all, events-of, numbers-of}
 use Rattle.rows.specs.Buffer.{written, room as rows-room}
+pub use Rattle.wire.specs.Cutting.{cut-at}
 use Rattle.corridor.specs.declared.Session.{Session}
 use Rattle.corridor.specs.declared.RowsAnswer.{RowsAnswer}
 use Rattle.corridor.specs.declared.Fed.{Fed}
@@ -17,10 +18,6 @@ use Rattle.corridor.specs.View.{view, put}
 -- the room for the answers to so many bytes: a session makes 16 shifts at most
 abbrev pub room : ℕ → ℕ
 room size = rows-room size 16
-
--- where the event ends that begins at `from`: after 20 bytes, or with the buffer
-abbrev pub cut-at : ℕ → ℕ → ℕ
-cut-at from size = cond (ltb (size - from) 20) size (from + 20)
 
 -- all answers in numbers
 abbrev pub answers-told : State → List (List ℕ) → List ℤ

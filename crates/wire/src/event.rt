@@ -1,17 +1,29 @@
-// What a byte string says: a tick, a quote, or nothing that is an event.
+// Where an event of a buffer ends, and what its byte string says: a tick, a quote, or nothing that is an event.
 
 ghost use mathlib.Core.Path.{_≡_};
-ghost use Prim.Native.Nat.{_+_, _≤_};
+ghost use Prim.Native.Nat.{_+_, _≤_, _<_};
 ghost use lib.IntN.{pos};
 ghost use lib.ListN.{length};
 ghost use Rattle.numbers.specs.Tests.{same};
 ghost use Rattle.method.specs.Wire.{word, signed};
 ghost use Rattle.method.specs.Event.{price-good, price-of, read-tick, read-quote, read};
+ghost use Rattle.wire.specs.Cutting.{cut-at};
 use method::Event;
 use method::Price;
 use method::Quote;
 use numbers::Seconds;
 use numbers::Steps;
+
+// Where the event that begins at `from` ends: after 20 bytes, or with the buffer.
+pub fn cut(from: usize, size: usize) -> usize
+    requires { ⌜ from < size ⌝ }
+    ensures { λ r. ⌜ r ≡ cut-at from size ⌝ }
+{
+    if size - from < 20 {
+        return size;
+    }
+    from + 20
+}
 
 // A signed field, as a price.
 fn price(bytes: &[u8], at: usize) -> Steps
