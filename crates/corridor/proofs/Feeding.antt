@@ -33,11 +33,11 @@ use Rattle.corridor.proofs.Theorems.{valid-event}
 use Rattle.corridor.proofs.Cutting.{first-event, Cut, cut-piece, cut-rest, fewer}
 
 -- ---- the rows of a reply
-abbrev rows-count : EventAnswer → ℕ → ℕ
+abbrev pub rows-count : EventAnswer → ℕ → ℕ
 rows-count EventAnswer.Accepted made = made
 rows-count (EventAnswer.Refused why) made = 1
 
-abbrev reply-rows : EventAnswer → List ShiftLine → ℕ → List Row
+abbrev pub reply-rows : EventAnswer → List ShiftLine → ℕ → List Row
 reply-rows EventAnswer.Accepted shifts made = map Row.Shift (take made shifts)
 reply-rows (EventAnswer.Refused why) shifts made = Row.RefusedEvent why ∷ []
 
@@ -146,17 +146,6 @@ module _ (o : Session) (b : List ℕ) (out : List ℤ) where
         rw (f, e)
         (replied a refl right (valid-event s piece (h .valid)) then
         (wrote ∙ ap (λ (q : Reply). written now at (numbers-of (reply-rows (q .answer) (q .shifts) (q .made)))) e))
-
-    fits : (q : Answer) → Right (view s) (read piece) q
-        → (reply-of s (read piece) q .made ≤ 16) × (at + 6 * rows-count (reply-of s (read piece) q .answer) (reply-of s (read piece) q .made) ≤ length out)
-    unfolding reply-of
-    fits (accepted cs) r =
-        let n = next-count (view s) (read piece) (accepted cs) (h .valid .sound) r in
-        (omega (arith, n, h .valid .sane .left), omega (arith, n, h .left))
-    fits (refused why) r = (omega arith, omega (arith, fewer b c, h .left))
-
-    pub ahead-fits : (r : Reply) → r ≡ reply-of s (read piece) a → (r .made ≤ 16) × (at + 6 * rows-count (r .answer) (r .made) ≤ length now)
-    ahead-fits r e = rw (e, ahead-long h) (fits a right)
 
   module _ {s : Session} {at from : ℕ} {now : List ℤ} (h : Ahead s at from now) (last : from ≡ length b) (enough : room (length b) ≤ length out) where
     none-left : events-of (drop from b) ≡ []

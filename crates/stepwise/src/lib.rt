@@ -1,0 +1,71 @@
+// A buffer of events handed to a session's `event` piece by piece: the way of a host that gets its events one at a time. Its promise is
+// that of `Session::feed`, word for word, so that the two are one.
+
+ghost use mathlib.Core.Path.{_≡_};
+ghost use Prim.Native.Nat.{_+_, _≤_};
+ghost use lib.ListN.{length};
+ghost use Rattle.rows.specs.Buffer.{written};
+ghost use Rattle.corridor.specs.View.{Valid};
+ghost use Rattle.corridor.specs.Feeding.{fed, fed-into};
+ghost use Rattle.stepwise.specs.Told.{told-of};
+use corridor::Fed;
+use corridor::RowsAnswer;
+use corridor::Session;
+use method::EventAnswer;
+use method::Row;
+use method::ShiftLine;
+
+// The rows of one answer, from `at` on; the result is the place after them.
+fn told(
+    out: &mut [i64],
+    at: usize,
+    answer: EventAnswer,
+    shifts: [ShiftLine; 16],
+    made: usize,
+) -> usize
+    requires { ⌜ (made ≤ 16) × (at + length (told-of answer shifts made) ≤ length (now out)) ⌝ }
+    ensures { λ r. ⌜ r ≡ at + length (told-of answer shifts made) ⌝ }
+    ensures { λ _. ⌜ now (out .exit) ≡ written (now (out .entry)) at (told-of answer shifts made) ⌝ }
+{
+    match answer {
+        EventAnswer::Accepted => rows::write_shifts(out, at, shifts, made),
+        EventAnswer::Refused(why) => {
+            rows::write(out, at, Row::RefusedEvent(why));
+            at + 6
+        }
+    }
+}
+
+// Each piece goes to the session that the one before it left; a last one that is cut short goes as it is. The room is worked out first:
+// where it is not there, nothing is done.
+pub fn feed(first: Session, events: &[u8], out: &mut [i64]) -> Fed
+    requires { ⌜ Valid first ⌝ }
+    ensures { λ r. ⌜ r ≡ fed first (length (now (out .entry))) (now (events .entry)) ⌝ }
+    ensures { λ _. ⌜ now (out .exit) ≡ fed-into first (now (out .entry)) (now (events .entry)) ⌝ }
+{
+    let size = events.len();
+    let needed = rows::room(size, 16);
+    if out.len() < needed {
+        return Fed {
+            answer: RowsAnswer::NoRoom(needed),
+            session: first,
+        };
+    }
+    let mut session = first;
+    let mut at: usize = 0;
+    let mut from: usize = 0;
+    while from < size {
+        let to = wire::event::cut(from, size);
+        let r = session.event(&events[from..to]);
+        let answer = r.answer;
+        let shifts = r.shifts;
+        let next = r.session;
+        at = told(out, at, answer, shifts, r.made);
+        session = next;
+        from = to;
+    }
+    Fed {
+        answer: RowsAnswer::Written(at),
+        session: session,
+    }
+}
