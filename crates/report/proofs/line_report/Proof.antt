@@ -1,6 +1,7 @@
 -- `report::line_report` meets its contract. Assumes nothing.
+use borrow.Author.Needs.{needs}
 use Rattle.method.specs.Report.{line-report}
-use Rattle.report.proofs.Rooms.{room-centre, room-half1, room-half2, room-half3, room-drawn}
+use Rattle.report.proofs.Rooms.{rooms, room-drawn}
 use Rattle.report.proofs.line_report.Statement.{statement}
 use Rattle.report.proofs.line_report.Tie as tie
 
@@ -8,19 +9,19 @@ interest-bounds-requires : tie.Need-interest-bounds-requires
 interest-bounds-requires c κs = room-drawn (c .before .before .before .pre .1)
 
 market-bounds-requires : tie.Need-market-bounds-requires
-market-bounds-requires c κs = (room-centre (c .before .before .before .before .before .before .before .before .pre .1), room-half1 (c .before .before .before .before .before .before .before .before .pre .1))
+market-bounds-requires c κs = search (needs, rooms)
 
 market-bounds-requires-2 : tie.Need-market-bounds-requires-2
-market-bounds-requires-2 c κs = (room-centre (c .before .before .before .before .before .before .before .before .before .pre .1), room-half2 (c .before .before .before .before .before .before .before .before .before .pre .1))
+market-bounds-requires-2 c κs = search (needs, rooms)
 
 market-bounds-requires-3 : tie.Need-market-bounds-requires-3
-market-bounds-requires-3 c κs = (room-centre (c .before .before .before .before .before .before .before .before .before .before .pre .1), room-half3 (c .before .before .before .before .before .before .before .before .before .before .pre .1))
+market-bounds-requires-3 c κs = search (needs, rooms)
 
 hold-report-requires : tie.Need-hold-report-requires
-hold-report-requires c κs = (c .before .before .before .before .before .before .before .before .before .before .before .pre .0, c .before .before .before .before .before .before .before .before .before .before .before .pre .1 .holds .up)
+hold-report-requires c κs = search (needs, rooms)
 
 hold-report-requires-2 : tie.Need-hold-report-requires-2
-hold-report-requires-2 c κs = (c .before .before .before .before .before .before .before .before .before .before .before .before .pre .0, c .before .before .before .before .before .before .before .before .before .before .before .before .pre .1 .holds .down)
+hold-report-requires-2 c κs = search (needs, rooms)
 
 returns : tie.Need-returns
 unfolding line-report
