@@ -9,7 +9,6 @@ use Rattle.method.specs.Types.{State}
 use Rattle.method.specs.Search.{run, finally}
 use Rattle.method.specs.Program.{rows-of-all, events-of, numbers-of}
 use Rattle.rows.specs.Buffer.{written, room as rows-room}
-pub use Rattle.wire.specs.Cutting.{cut-at}
 use Rattle.corridor.specs.declared.Session.{Session}
 use Rattle.corridor.specs.declared.RowsAnswer.{RowsAnswer}
 use Rattle.corridor.specs.declared.Fed.{Fed}

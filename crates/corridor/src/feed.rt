@@ -1,10 +1,9 @@
 // A whole buffer of events: their answers as rows of numbers, in a buffer that the caller lends.
 
 ghost use mathlib.Core.Path.{_≡_};
-ghost use Prim.Native.Nat.{_<_};
 ghost use lib.ListN.{length};
 ghost use Rattle.corridor.specs.View.{Valid};
-ghost use Rattle.corridor.specs.Feeding.{cut-at, fed, fed-into};
+ghost use Rattle.corridor.specs.Feeding.{fed, fed-into};
 use crate::Fed;
 use crate::RowsAnswer;
 use crate::Session;
@@ -12,17 +11,6 @@ use method::Row;
 use numbers::Seconds;
 use verdict::Change;
 use verdict::Verdict;
-
-// Where the event that begins at `from` ends: after 20 bytes, or with the buffer.
-fn cut(from: usize, size: usize) -> usize
-    requires { ⌜ from < size ⌝ }
-    ensures { λ r. ⌜ r ≡ cut-at from size ⌝ }
-{
-    if size - from < 20 {
-        return size;
-    }
-    from + 20
-}
 
 impl Session {
     // Every event of the buffer in turn; a last one that is cut short is refused like any string that is no event. The room is worked out
@@ -55,7 +43,7 @@ impl Session {
         let mut at: usize = 0;
         let mut from: usize = 0;
         while from < size {
-            let to = cut(from, size);
+            let to = wire::event::cut(from, size);
             let e = wire::event::read(&events[from..to]);
             from = to;
             let end = self.end;
