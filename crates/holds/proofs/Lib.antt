@@ -1,3 +1,2 @@
-pub mod Pressing
 pub mod Moving
 pub mod Rooms

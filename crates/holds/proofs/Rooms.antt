@@ -6,8 +6,9 @@ use Rattle.method.specs.Shift.{moved-line}
 use Rattle.method.specs.Event.{with-book}
 use Rattle.method.specs.Ranges.{PriceIn, HoldsIn, Room}
 use Rattle.method.proofs.Rooms.{span-within, upper-in, lower-in, room-moved}
+use Rattle.pressure.specs.Asks.{LimitsWithin, Pressed}
 use Rattle.holds.specs.Names.{Side, Millionths, Price, Line}
-use Rattle.holds.specs.Asks.{LimitsWithin, Pressed, Shiftable, Shifts}
+use Rattle.holds.specs.Asks.{Shiftable, Shifts}
 
 room-limits : {left : ℕ} {l : Line} → Room left l → LimitsWithin (l .limits)
 room-limits r = record { upper = upper-in r; lower = lower-in r }

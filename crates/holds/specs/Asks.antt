@@ -3,35 +3,11 @@ use Prim.Native.Nat.{ℕ, suc, _≤_}
 use lib.IntN.{ℤ, _+ℤ_, _-ℤ_}
 use Rattle.numbers.specs.Ranges.{Within}
 use Rattle.method.specs.Types.{steps}
-use Rattle.method.specs.Ranges.{FactorsIn, PriceIn, BookIn, Room}
+use Rattle.method.specs.Ranges.{FactorsIn, Room}
 use Rattle.bounds.specs.Asks.{Drawn}
-use Rattle.holds.specs.Names.{Terms, Market, Millionths, Limits, Price, Line}
+use Rattle.pressure.specs.Asks.{LimitsWithin}
+use Rattle.holds.specs.Names.{Terms, Market, Millionths, Limits, Line}
 
--- ---- pressure
-pub record LimitsWithin (k : Limits) : Type 0 where
-  pub upper : Within 2_970_000_000 (k .upper .0)
-  pub lower : Within 2_970_000_000 (k .lower .0)
-
--- what the near test asks of a distance a - b
-pub record Apart (near : ℕ) (k : Limits) (a b : ℤ) : Type 0 where
-  pub share : near ≤ 500_000
-  pub limits : LimitsWithin k
-  pub from : Within 2_970_000_000 a
-  pub to : Within 2_970_000_000 b
-
--- what a price's test asks
-pub record Tested (near : Millionths) (k : Limits) (p : Price) : Type 0 where
-  pub share : near .0 ≤ 500_000
-  pub limits : LimitsWithin k
-  pub price : PriceIn p
-
--- what the pressure of a line asks
-pub record Pressed (near : Millionths) (l : Line) : Type 0 where
-  pub share : near .0 ≤ 500_000
-  pub limits : LimitsWithin (l .limits)
-  pub book : BookIn (l .book)
-
--- ---- a shift
 -- what a market asks that is moved
 pub record Movable (by : ℤ) (m : Market) : Type 0 where
   pub small : Within 50_000_000 by

@@ -1,4 +1,3 @@
-// A line's holds: what presses a limit, and what a shift and a quote do to the line.
+// What a shift and a quote do to one line: its numbers, its book and its holds.
 
-pub mod pressure;
 pub mod shift;

@@ -1,9 +1,9 @@
--- `holds::pressure::presses` meets its contract. Assumes nothing.
+-- `pressure::presses` meets its contract. Assumes nothing.
 use borrow.Author.Needs.{needs}
 use Rattle.method.specs.Pressure.{presses}
-use Rattle.holds.proofs.Pressing.{price-in}
-use Rattle.holds.proofs.pressure.presses.Statement.{statement}
-use Rattle.holds.proofs.pressure.presses.Tie as tie
+use Rattle.pressure.proofs.Pressing.{price-in}
+use Rattle.pressure.proofs.presses.Statement.{statement}
+use Rattle.pressure.proofs.presses.Tie as tie
 
 bit-1-requires : tie.Need-bit-1-requires
 bit-1-requires c κs = search needs

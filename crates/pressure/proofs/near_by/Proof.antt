@@ -1,8 +1,8 @@
--- `holds::pressure::near_by` meets its contract. Assumes nothing.
+-- `pressure::near_by` meets its contract. Assumes nothing.
 use borrow.Author.Needs.{needs}
-use Rattle.holds.proofs.Pressing.{distances}
-use Rattle.holds.proofs.pressure.near_by.Statement.{statement}
-use Rattle.holds.proofs.pressure.near_by.Tie as tie
+use Rattle.pressure.proofs.Pressing.{distances}
+use Rattle.pressure.proofs.near_by.Statement.{statement}
+use Rattle.pressure.proofs.near_by.Tie as tie
 
 sub-distance : tie.Need-sub-distance
 sub-distance c = search (needs, distances)

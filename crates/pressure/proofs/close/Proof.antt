@@ -1,9 +1,9 @@
--- `holds::pressure::close` meets its contract. Assumes nothing.
+-- `pressure::close` meets its contract. Assumes nothing.
 use borrow.Author.Needs.{needs}
 use Rattle.method.specs.Pressure.{close}
-use Rattle.holds.proofs.Pressing.{given-in}
-use Rattle.holds.proofs.pressure.close.Statement.{statement}
-use Rattle.holds.proofs.pressure.close.Tie as tie
+use Rattle.pressure.proofs.Pressing.{given-in}
+use Rattle.pressure.proofs.close.Statement.{statement}
+use Rattle.pressure.proofs.close.Tie as tie
 
 enum-told : tie.Need-enum-told
 enum-told c = search needs

@@ -11,8 +11,8 @@ use Rattle.numbers.proofs.Ranges.{fits, within-more, within-sub, within-mul, wi
 use Rattle.numbers.proofs.Machine.{cast-back}
 use Rattle.method.specs.Pressure.{price}
 use Rattle.method.specs.Ranges.{PriceIn, BookIn}
-use Rattle.holds.specs.Names.{Side, Up, Down, Steps, Limits, Price, Given, Book}
-use Rattle.holds.specs.Asks.{Apart}
+use Rattle.pressure.specs.Names.{Side, Up, Down, Steps, Limits, Price, Given, Book}
+use Rattle.pressure.specs.Asks.{Apart}
 
 module _ {near : ℕ} {k : Limits} {a b : ℤ} (q : Apart near k a b) where
   pub distance-fits : SFits w64 (a -ℤ b)

@@ -1,8 +1,8 @@
--- `holds::pressure::judged` meets its contract. Assumes nothing.
+-- `pressure::judged` meets its contract. Assumes nothing.
 use borrow.Author.Needs.{needs}
 use Rattle.method.specs.Pressure.{judged}
-use Rattle.holds.proofs.pressure.judged.Statement.{statement}
-use Rattle.holds.proofs.pressure.judged.Tie as tie
+use Rattle.pressure.proofs.judged.Statement.{statement}
+use Rattle.pressure.proofs.judged.Tie as tie
 
 enum-told : tie.Need-enum-told
 enum-told c = search needs

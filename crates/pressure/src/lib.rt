@@ -3,7 +3,7 @@
 ghost use mathlib.Core.Path.{_≡_};
 ghost use lib.IntN.{_-ℤ_};
 ghost use Rattle.method.specs.Pressure.{near-by, close, price, presses, judged, judge};
-ghost use Rattle.holds.specs.Asks.{Apart, Tested, Pressed};
+ghost use Rattle.pressure.specs.Asks.{Apart, Tested, Pressed};
 use method::Book;
 use method::Hold;
 use method::Holds;
@@ -82,22 +82,29 @@ fn judged(now: Seconds, pressed: bool, h: Hold) -> Hold
 }
 
 // Both holds of a line. Where no shift is left no hold exists, and no price is looked at.
-pub fn judge(near: Millionths, left: u32, now: Seconds, l: Line) -> Line
+fn judged_holds(near: Millionths, left: u32, now: Seconds, l: Line) -> Holds
     requires { ⌜ Pressed near l ⌝ }
-    ensures { λ r. ⌜ r ≡ judge near left now l ⌝ }
+    ensures { λ r. ⌜ r ≡ (judge near left now l) .holds ⌝ }
 {
     if left == 0 {
-        let none = Holds {
+        return Holds {
             up: Hold::Idle,
             down: Hold::Idle,
         };
-        return Line { holds: none, ..l };
     }
     let old = l.holds;
     let up = old.up;
     let down = old.down;
     let u = judged(now, presses(Side::Up, near, l), up);
     let d = judged(now, presses(Side::Down, near, l), down);
-    let holds = Holds { up: u, down: d };
+    Holds { up: u, down: d }
+}
+
+// A line with its holds judged, and all else as it was.
+pub fn judge(near: Millionths, left: u32, now: Seconds, l: Line) -> Line
+    requires { ⌜ Pressed near l ⌝ }
+    ensures { λ r. ⌜ r ≡ judge near left now l ⌝ }
+{
+    let holds = judged_holds(near, left, now, l);
     Line { holds: holds, ..l }
 }

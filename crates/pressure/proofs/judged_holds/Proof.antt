@@ -1,0 +1,38 @@
+-- `pressure::judged_holds` meets its contract. Assumes nothing.
+use borrow.Author.Needs.{needs}
+use borrow.Author.Tests.{lt-ltb, le-ltb}
+use native.Mathlib.Omega.{arith}
+use Rattle.method.specs.Pressure.{judged, judge}
+use Rattle.pressure.proofs.judged_holds.Statement.{statement}
+use Rattle.pressure.proofs.judged_holds.Tie as tie
+
+returns : tie.Need-returns
+unfolding judge judged
+returns c = rw (le-ltb 0 (c .before .args .left) (omega (arith, c .if1 .taken)))
+
+presses-requires : tie.Need-presses-requires
+presses-requires c κs = search needs
+
+judged-requires : tie.Need-judged-requires
+judged-requires c κs = search needs
+
+presses-requires-2 : tie.Need-presses-requires-2
+presses-requires-2 c κs = search needs
+
+judged-requires-2 : tie.Need-judged-requires-2
+judged-requires-2 c κs = search needs
+
+returns-2 : tie.Need-returns-2
+unfolding judge
+returns-2 c = rw (c .judged2 .ensures, c .before .presses2 .ensures, c .before .before .judged .ensures, c .before .before .before .presses .ensures, lt-ltb 0 (c .before .before .before .before .before .before .args .left) (omega (arith, c .before .before .before .before .before .if1 .left)))
+
+pub judged-holds-spec : {M : Type 1} → statement M
+judged-holds-spec =
+    tie.close
+    (tie.spec
+    returns
+    presses-requires
+    judged-requires
+    presses-requires-2
+    judged-requires-2
+    returns-2)
