@@ -11,7 +11,7 @@ use Rattle.method.specs.Types.{Header, Key, Contract, Terms, Market, Lim
 use Rattle.method.specs.Opening.{permits-negative, rates-good, fields-good, known, inside-bounds}
 use Rattle.method.specs.Table.{header-good, laid-out, key-good}
 use Rattle.method.specs.Ranges.{HeaderIn, KeyIn, ContractIn, Every}
-use Rattle.method.specs.Rule1Words.{Laid, Inside}
+use Rattle.method.specs.Rule1Words.{Laid, InsideBounds}
 
 -- ---- a test that fails denies what it decides; one that decides it holds where that holds
 pub denied : {P : Type 0} (t : Bool) → (P → t ≡ true) → t ≡ false → P → ⊥
@@ -72,11 +72,11 @@ fields-test c r =
     (both-true (both-true (within-in (r .price)) (permitted-or (permits-negative (c .flags)) (λ n. true-le (r .positive n)))) (within-in (r .spot)))
     (span-in (r .least))) rates) (le-leb (c .width .0) 1_000_000 (r .width))) (le-leb (c .days) 3_650 (r .days))) (lt-ltb (c .flags) 4 (r .flags))
 
-pub inside-in : (t : Terms) (m : Market) (k : Limits) → inside-bounds t m k ≡ true → Inside t m k
+pub inside-in : (t : Terms) (m : Market) (k : Limits) → inside-bounds t m k ≡ true → InsideBounds t m k
 unfolding inside-bounds
 inside-in t m k e = let p = both _ _ e in record { upper = le-true _ _ (p .0); lower = le-true _ _ (p .1) }
 
-pub inside-test : (t : Terms) (m : Market) (k : Limits) → Inside t m k → inside-bounds t m k ≡ true
+pub inside-test : (t : Terms) (m : Market) (k : Limits) → InsideBounds t m k → inside-bounds t m k ≡ true
 unfolding inside-bounds
 inside-test t m k r = both-true (true-le (r .upper)) (true-le (r .lower))
 

@@ -16,7 +16,7 @@ pub mod HoldLife
 pub mod FirstFound
 pub mod Serving
 pub mod Answers
-pub mod Moments
+pub mod Stages
 pub mod EveryLine
 pub mod OtherSide
 pub mod NoneMissed

@@ -51,7 +51,7 @@ use Rattle.method.proofs.Answers.{
   answers-count,
   answers-reported,
 }
-use Rattle.method.proofs.Moments.{pressed-since}
+use Rattle.method.proofs.Stages.{pressed-since}
 use Rattle.method.proofs.OtherSide.{Fit, fit-opened, fit-shift, fit-quote}
 use Rattle.method.proofs.NoneMissed.{calls-answer}
 use Rattle.method.proofs.Each.{each-weaker}

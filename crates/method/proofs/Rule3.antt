@@ -15,7 +15,7 @@ use Rattle.method.specs.CalledFor.{time, Right, reached, joined}
 use Rattle.method.specs.Ranges.{Room}
 use Rattle.method.specs.Later.{start}
 use Rattle.method.specs.Rule3Words.{
-  inside,
+  margin,
   FloorMet,
   at-opening,
   in-a-shift,
@@ -100,10 +100,10 @@ rule3-frozen-for-good table o s r cs ds e m n =
 not-below : (w b i : ℤ) → w -ℤ b ≡ i → pos 1 ≤ℤ w → (b +ℤ i) <ℤ pos 1 → ⊥
 not-below w b i e h g = omega (zarith, sub-is w b, add-is b i)
 
-not-met : (o l : Line) → o .limits .frozen ≡ false → (permits-negative (l .terms .flags) ≡ false → pos 1 ≤ℤ (l .limits .lower .0)) → inside Down l ≡ inside Down o
+not-met : (o l : Line) → o .limits .frozen ≡ false → (permits-negative (l .terms .flags) ≡ false → pos 1 ≤ℤ (l .limits .lower .0)) → margin Down l ≡ margin Down o
     → FloorMet o l → ⊥
 not-met o l z least e (at-opening f) = true≢false (sym f ∙ z)
-not-met o l z least e (in-a-shift g h) = not-below (l .limits .lower .0) (bound Down (l .terms) (l .market)) (inside Down o) e (least g) h
+not-met o l z least e (in-a-shift g h) = not-below (l .limits .lower .0) (bound Down (l .terms) (l .market)) (margin Down o) e (least g) h
 
 frozen-tells : (o l : Line) → Lower o l → (l .limits .frozen ≡ true) ↔ FloorMet o l
 frozen-tells o l (exactly z least e f) = (λ y. absurd (true≢false (sym y ∙ f)), λ x. absurd (not-met o l z least e x))
@@ -129,7 +129,7 @@ module _ (o l r : Line) (terms : l .terms ≡ r .terms) (market : l .market ≡ 
 
 lower-one : (o l r : Line) → l .terms ≡ r .terms → l .market ≡ r .market → Lower o l → Lower o r
     → (l .limits .lower .0 ≡ r .limits .lower .0) × (l .limits .frozen ≡ r .limits .frozen)
-lower-one o l r t m (exactly z p e f) (exactly z′ p′ e′ f′) = (same-lower _ _ _ _ (inside Down o) (same-bound o l r t m Down) e e′, f ∙ sym f′)
+lower-one o l r t m (exactly z p e f) (exactly z′ p′ e′ f′) = (same-lower _ _ _ _ (margin Down o) (same-bound o l r t m Down) e e′, f ∙ sym f′)
 lower-one o l r t m (exactly z p e f) (at-floor x w i f′) = absurd (not-met o l z p e (met-same o r l (sym t) (sym m) x))
 lower-one o l r t m (at-floor x w i f) (exactly z p e f′) = absurd (not-met o r z p e (met-same o l r t m x))
 lower-one o l r t m (at-floor x w i f) (at-floor x′ w′ i′ f′) = (w ∙ sym w′, f ∙ sym f′)
@@ -148,5 +148,5 @@ rule3-one-line u d o l r p q =
     let t = p .terms ∙ sym (q .terms) in
     let m = market-one p q in
     let lower = lower-one o l r t m (p .lower) (q .lower) in
-    let upper = same-upper _ _ (l .limits .upper .0) (r .limits .upper .0) (inside Up o) (same-bound o l r t m Up) (p .upper) (q .upper) in
+    let upper = same-upper _ _ (l .limits .upper .0) (r .limits .upper .0) (margin Up o) (same-bound o l r t m Up) (p .upper) (q .upper) in
     (m, λ i. record { upper = steps (upper i); lower = steps (lower .0 i); frozen = lower .1 i })

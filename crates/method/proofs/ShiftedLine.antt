@@ -15,7 +15,7 @@ use Rattle.method.specs.Pressure.{judge}
 use Rattle.method.specs.Shift.{toward, moved, redrawn, moved-line, shift-line}
 use Rattle.method.specs.Event.{quoted-line}
 use Rattle.method.specs.Ranges.{Floor, Opened, Room}
-use Rattle.method.specs.Rule3Words.{alike, inside, FloorMet, at-opening, in-a-shift, Lower, exactly, at-floor, Shifted}
+use Rattle.method.specs.Rule3Words.{alike, margin, FloorMet, at-opening, in-a-shift, Lower, exactly, at-floor, Shifted}
 use Rattle.method.proofs.Bounds.{bound-kept, lower-falls}
 use Rattle.method.proofs.Floor.{Floored, free, met, floor-of, floored-upper}
 use Rattle.method.proofs.Redrawn.{lowered, one-at-floor, Wider, limits-wider}
@@ -73,7 +73,7 @@ module _ (o l : Line) (n : Market) (p : Book) (h : Holds) where
 
   floor-met-on : (k : Limits) → b′ ≤ℤ b → FloorMet o l → FloorMet o (remade l n k p h)
   floor-met-on k fall (at-opening e) = at-opening e
-  floor-met-on k fall (in-a-shift g e) = in-a-shift g (still-below b b′ (inside Down o) fall e)
+  floor-met-on k fall (in-a-shift g e) = in-a-shift g (still-below b b′ (margin Down o) fall e)
 
   lower-lowered : {k : Limits} → b′ ≤ℤ b → Floor (l .limits) (l .terms .flags) → Floored (permits-negative (l .terms .flags)) (lowered b b′ (l .limits)) k
       → Lower o l → Lower o (remade l n k p h)
@@ -81,12 +81,12 @@ module _ (o l : Line) (n : Market) (p : Book) (h : Holds) where
   lower-lowered fall f (free g) (at-floor x e i q) =
       let w = l .limits .lower .0 in
       let one = one-at-floor w b b′ fall e (g (f .frozen-by q)) in
-      at-floor (floor-met-on _ fall x) one (floor-inside w (w -ℤ (b -ℤ b′)) b b′ (inside Down o) fall e one i) q
+      at-floor (floor-met-on _ fall x) one (floor-inside w (w -ℤ (b -ℤ b′)) b b′ (margin Down o) fall e one i) q
   lower-lowered fall f (met y g) (exactly z low e q) =
-      let below = result-below (l .limits .lower .0) b b′ (inside Down o) e g in
-      at-floor (in-a-shift y below) refl (further-inside b′ (inside Down o) below) refl
+      let below = result-below (l .limits .lower .0) b b′ (margin Down o) e g in
+      at-floor (in-a-shift y below) refl (further-inside b′ (margin Down o) below) refl
   lower-lowered fall f (met y g) (at-floor x e i q) =
-      at-floor (floor-met-on _ fall x) refl (floor-inside (l .limits .lower .0) (pos 1) b b′ (inside Down o) fall e refl i) refl
+      at-floor (floor-met-on _ fall x) refl (floor-inside (l .limits .lower .0) (pos 1) b b′ (margin Down o) fall e refl i) refl
 
   -- an upward shift and a quote leave the lower bound, the lower limit and whether it is frozen
   lower-kept : (upper : Steps) → b′ ≡ b → Lower o l → Lower o (remade l n (record { upper = upper; lower = l .limits .lower; frozen = l .limits .frozen }) p h)
@@ -102,7 +102,7 @@ abbrev next-limits : Side → Line → Limits
 next-limits side l = redrawn side (l .terms) (l .market) (next-market side l) (l .limits)
 
 module _ (o l : Line) (p : Book) (h : Holds) where
-  upper-moved : (side : Side) → inside Up (remade l (next-market side l) (next-limits side l) p h) ≡ inside Up l
+  upper-moved : (side : Side) → margin Up (remade l (next-market side l) (next-limits side l) p h) ≡ margin Up l
   unfolding redrawn
   upper-moved Up = raised-inside (l .limits .upper .0) (bound Up (l .terms) (l .market)) (bound Up (l .terms) (next-market Up l))
   upper-moved Down =
@@ -138,7 +138,7 @@ shifted-start l v =
     none w h = omega (zarith, mul-is h (0 + 0), add-is w (h *ℤ pos (0 + 0)))
 
     start : (f : Bool) → l .limits .frozen ≡ f → Lower l l
-    start true e = at-floor (at-opening e) (v .limits .floor .frozen-at e) (≤ℤ-refl (inside Down l)) e
+    start true e = at-floor (at-opening e) (v .limits .floor .frozen-at e) (≤ℤ-refl (margin Down l)) e
     start false e = exactly e (v .limits .floor .least) refl e
 
 module _ (near : Millionths) (left : ℕ) (side : Side) (now : Seconds) {k : ℕ} {l : Line} (r : Room k l) where

@@ -47,7 +47,7 @@ pub record Fresh (earlier : List Contract) (id : ℕ) : Type 0 where
   pub given : 0 < id
   pub new : Every (λ e. e .id ≡ id → ⊥) earlier
 
-pub record Inside (t : Terms) (m : Market) (k : Limits) : Type 0 where
+pub record InsideBounds (t : Terms) (m : Market) (k : Limits) : Type 0 where
   pub upper : (k .upper .0) ≤ℤ (bound Up t m)
   pub lower : (bound Down t m) ≤ℤ (k .lower .0)
 
@@ -67,7 +67,7 @@ module _ (shift : Millionths) (keys : List Key) where
     pub id : Fresh earlier (c .id)
     pub cap : exponent-of keys c ≤ most-exponent
     pub moves : pos 1 ≤ℤ (its-terms c .halfmove .0)
-    pub inside : Inside (its-terms c) (market-of c) (its-corridor c)
+    pub inside : InsideBounds (its-terms c) (market-of c) (its-corridor c)
 
   unfoldable pub GoodAll : List Contract → List Contract → Type 0
   GoodAll earlier [] = Unit {0}
@@ -83,7 +83,7 @@ module _ (shift : Millionths) (keys : List Key) where
         → Fault earlier c TableReason.HalfMove
     limit :
         ContractIn c → Fresh earlier (c .id) → exponent-of keys c ≤ most-exponent → pos 1 ≤ℤ (its-terms c .halfmove .0)
-        → (Inside (its-terms c) (market-of c) (its-corridor c) → ⊥) → Fault earlier c TableReason.Corridor
+        → (InsideBounds (its-terms c) (market-of c) (its-corridor c) → ⊥) → Fault earlier c TableReason.Corridor
 
 -- ---- a byte string that is an event
 -- "An absent price is 0", a present one lies in ±2,000,000,000

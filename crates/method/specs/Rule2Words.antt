@@ -85,34 +85,34 @@ pub record Timely (clock t end : Seconds) (c : ShiftLine) : Type 0 where
   pub by-event : c .second .0 ≤ t .0
   pub before-end : c .second .0 < end .0
 
--- The moments of a session: one after each shift, and one after each accepted event; each with the second at which its state begins.
-pub record Moment : Type 0 where
+-- The stages of a session: one after each shift, and one after each accepted event; each with the second at which its state begins.
+pub record Stage : Type 0 where
   pub second : Seconds
   pub state : State
 
-unfoldable pub shift-moments : State → List ShiftLine → List Moment
-shift-moments s [] = []
-shift-moments s (c ∷ cs) = record { second = c .second; state = onward s c } ∷ shift-moments (onward s c) cs
+unfoldable pub shift-stages : State → List ShiftLine → List Stage
+shift-stages s [] = []
+shift-stages s (c ∷ cs) = record { second = c .second; state = onward s c } ∷ shift-stages (onward s c) cs
 
-unfoldable pub event-moments : State → Event → Answer → List Moment
-event-moments s e (accepted cs) = shift-moments s cs ++ record { second = time e; state = next s e (accepted cs) } ∷ []
-event-moments s e (refused why) = []
+unfoldable pub event-stages : State → Event → Answer → List Stage
+event-stages s e (accepted cs) = shift-stages s cs ++ record { second = time e; state = next s e (accepted cs) } ∷ []
+event-stages s e (refused why) = []
 
-unfoldable pub moments : State → List (List ℕ) → List Answer → List Moment
-moments s [] rs = []
-moments s (b ∷ bs) [] = []
-moments s (b ∷ bs) (a ∷ rs) = event-moments s (read b) a ++ moments (next s (read b) a) bs rs
+unfoldable pub stages : State → List (List ℕ) → List Answer → List Stage
+stages s [] rs = []
+stages s (b ∷ bs) [] = []
+stages s (b ∷ bs) (a ∷ rs) = event-stages s (read b) a ++ stages (next s (read b) a) bs rs
 
--- at a moment the line at that place presses, and its hold stands since `start`
-pub record Pressing (side : Side) (place : ℕ) (start : Seconds) (m : Moment) : Type 0 where
+-- at a stage the line at that place presses, and its hold stands since `start`
+pub record Pressing (side : Side) (place : ℕ) (start : Seconds) (m : Stage) : Type 0 where
   pub held : hold-at side (m .state) place ≡ Since start
   pub pressed : presses-at side (m .state) place ≡ true
 
--- The line has pressed without a break since `start`: from a moment at that second on, and so at all moments later than that second.
-pub record Unbroken (side : Side) (place : ℕ) (start : Seconds) (ms : List Moment) : Type 0 where
-  pub earlier : List Moment
-  pub began : Moment
-  pub later : List Moment
+-- The line has pressed without a break since `start`: from a stage at that second on, and so at all stages later than that second.
+pub record Unbroken (side : Side) (place : ℕ) (start : Seconds) (ms : List Stage) : Type 0 where
+  pub earlier : List Stage
+  pub began : Stage
+  pub later : List Stage
   pub split : ms ≡ earlier ++ began ∷ later
   pub at-start : began .second ≡ start
   pub from-there : Every (Pressing side place start) (began ∷ later)
@@ -121,7 +121,7 @@ pub record Unbroken (side : Side) (place : ℕ) (start : Seconds) (ms : List Mom
 pub record CalledFor (o : State) (past : List (List ℕ)) (told : List Answer) (b : List ℕ) (cs : List ShiftLine) (c : ShiftLine) : Type 0 where
   pub caller : Caller (after cs (reached o past told)) c
   pub timely : Timely (reached o past told .clock) (time (read b)) (o .end) c
-  pub unbroken : Unbroken (c .side) (caller .place) (caller .start) (moments o past told ++ shift-moments (reached o past told) cs)
+  pub unbroken : Unbroken (c .side) (caller .place) (caller .start) (stages o past told ++ shift-stages (reached o past told) cs)
 
 -- where a shift line of the joined list comes from
 pub record Reported (o : State) (bs : List (List ℕ)) (rs : List Answer) (c : ShiftLine) : Type 0 where

@@ -40,31 +40,31 @@ pub record HalfWidths (n : ℕ) (o l : Line) : Type 0 where
   pub half3 : l .market .half3 .0 ≡ grown n o (o .market .half3)
 
 -- how far inside its interest bound the limit of a side stands
-abbrev pub inside : Side → Line → ℤ
-inside Up l = bound Up (l .terms) (l .market) -ℤ l .limits .upper .0
-inside Down l = l .limits .lower .0 -ℤ bound Down (l .terms) (l .market)
+abbrev pub margin : Side → Line → ℤ
+margin Up l = bound Up (l .terms) (l .market) -ℤ l .limits .upper .0
+margin Down l = l .limits .lower .0 -ℤ bound Down (l .terms) (l .market)
 
 -- The floor of one step acts on a result below 1: at opening, or in a shift. The result of the shifts, with no floor, stands exactly as far
 -- inside the lower interest bound as at opening; as that bound never rises, a result below 1 stays so.
 pub data FloorMet (o l : Line) : Type 0 where
   at-opening : o .limits .frozen ≡ true → FloorMet o l
-  in-a-shift : permits-negative (l .terms .flags) ≡ false → (bound Down (l .terms) (l .market) +ℤ inside Down o) <ℤ pos 1 → FloorMet o l
+  in-a-shift : permits-negative (l .terms .flags) ≡ false → (bound Down (l .terms) (l .market) +ℤ margin Down o) <ℤ pos 1 → FloorMet o l
 
 -- The lower limit: the two cases exclude each other, and `frozen` tells which it is.
 pub data Lower (o l : Line) : Type 0 where
   -- until it meets the floor, it stands exactly as far inside as at opening
   exactly :
-      o .limits .frozen ≡ false → (permits-negative (l .terms .flags) ≡ false → pos 1 ≤ℤ (l .limits .lower .0)) → inside Down l ≡ inside Down o
+      o .limits .frozen ≡ false → (permits-negative (l .terms .flags) ≡ false → pos 1 ≤ℤ (l .limits .lower .0)) → margin Down l ≡ margin Down o
       → l .limits .frozen ≡ false → Lower o l
   -- from then on it is 1 and frozen, and at least that far inside
-  at-floor : FloorMet o l → l .limits .lower .0 ≡ pos 1 → inside Down o ≤ℤ inside Down l → l .limits .frozen ≡ true → Lower o l
+  at-floor : FloorMet o l → l .limits .lower .0 ≡ pos 1 → margin Down o ≤ℤ margin Down l → l .limits .frozen ≡ true → Lower o l
 
 -- All that rule 3 says of one line, and that what the table told of the contract stays.
 pub record Shifted (u d : ℕ) (o l : Line) : Type 0 where
   pub terms : l .terms ≡ o .terms
   pub centre : Centre u d o l
   pub halfs : HalfWidths (u + d) o l
-  pub upper : inside Up l ≡ inside Up o
+  pub upper : margin Up l ≡ margin Up o
   pub lower : Lower o l
 
 -- ---- two moments of one line

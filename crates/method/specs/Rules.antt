@@ -36,7 +36,7 @@ use Rattle.method.specs.Rule1Words.{
   Struck,
 }
 use Rattle.method.specs.Rule2Words.{AfterAny, AnyAccepted, Each, BookLife, Fixed, hold-at, presses-at, CalledFor, Reported, Rising, Answered, Life, remaining}
-use Rattle.method.specs.Rule3Words.{count, EachLine, Centre, HalfWidths, inside, FloorMet, Lower, Shifted, Outward, StaysFrozen}
+use Rattle.method.specs.Rule3Words.{count, EachLine, Centre, HalfWidths, margin, FloorMet, Lower, Shifted, Outward, StaysFrozen}
 
 -- ==== RULE 1
 -- ---- "Every table .., however damaged, gets an answer."
@@ -251,7 +251,7 @@ ShiftsLead =
 
 -- ---- "the upper limit stands exactly as far inside the upper interest bound as at opening" (rule3-upper)
 abbrev pub UpperInside : Type 0
-UpperInside = EachLine (λ u d o l. inside Up l ≡ inside Up o)
+UpperInside = EachLine (λ u d o l. margin Up l ≡ margin Up o)
 
 -- ---- "the lower limit does too until it meets the floor of one step; from then on it is at least that far inside" (rule3-lower)
 abbrev pub LowerInside : Type 0

@@ -1,5 +1,5 @@
--- The moments of a run form a chain: at each, a hold began there or stood at the one before. So the hold behind a shift line has stood, and
--- its line has pressed, at every moment since its start. Assumes nothing.
+-- The stages of a run form a chain: at each, a hold began there or stood at the one before. So the hold behind a shift line has stood, and
+-- its line has pressed, at every stage since its start. Assumes nothing.
 use mathlib.Core.Path.{_≡_, refl, sym, ap, _∙_}
 use mathlib.Core.Logic.{_⊎_, inl, inr, ⊎-elim}
 use mathlib.Core.List.{List, [], _∷_, _++_}
@@ -18,10 +18,10 @@ use Rattle.method.specs.Rule2Words.{
   up-down,
   Rising,
   Timely,
-  Moment,
-  shift-moments,
-  event-moments,
-  moments,
+  Stage,
+  shift-stages,
+  event-stages,
+  stages,
   Pressing,
   Unbroken,
 }
@@ -30,38 +30,38 @@ use Rattle.method.proofs.HoldLife.{Judged, no-since, applied-life, life
 use Rattle.method.proofs.Serving.{judged-onward, onward-held, calls-rising, after-judged}
 use Rattle.method.proofs.Answers.{next-sound, next-clock, next-timely, right-from-clock, sound-reached}
 
--- ---- a chain of moments
-record Follows (m n : Moment) : Type 0 where
+-- ---- a chain of stages
+record Follows (m n : Stage) : Type 0 where
   not-before : m .second .0 ≤ n .second .0
   judged : Judged (n .state)
   held : (side : Side) (place : ℕ) (start : Seconds) → hold-at side (n .state) place ≡ Since start
       → (start ≡ n .second) ⊎ (hold-at side (m .state) place ≡ Since start)
 
-unfoldable Chain : Moment → List Moment → Type 0
+unfoldable Chain : Stage → List Stage → Type 0
 Chain m [] = Unit {0}
 Chain m (n ∷ ns) = Follows m n × Chain n ns
 
-unfoldable last : Moment → List Moment → Moment
+unfoldable last : Stage → List Stage → Stage
 last m [] = m
 last m (n ∷ ns) = last n ns
 
-chain-append : (m : Moment) (ns os : List Moment) → Chain m ns → Chain (last m ns) os → Chain m (ns ++ os)
+chain-append : (m : Stage) (ns os : List Stage) → Chain m ns → Chain (last m ns) os → Chain m (ns ++ os)
 unfolding Chain last
 chain-append m [] os h k = k
 chain-append m (n ∷ ns) os h k = (h .0, chain-append n ns os (h .1) k)
 
-last-append : (m : Moment) (ns os : List Moment) → last m (ns ++ os) ≡ last (last m ns) os
+last-append : (m : Stage) (ns os : List Stage) → last m (ns ++ os) ≡ last (last m ns) os
 unfolding last
 last-append m [] os = refl
 last-append m (n ∷ ns) os = last-append n ns os
 
--- ---- along a chain, a hold that stands at the last moment has stood since its start
+-- ---- along a chain, a hold that stands at the last stage has stood since its start
 module _ (side : Side) (place : ℕ) (start : Seconds) where
-  abbrev Held : Moment → Type 0
+  abbrev Held : Stage → Type 0
   Held m = hold-at side (m .state) place ≡ Since start
 
-  -- at all moments later than the start
-  stood : (m : Moment) (ns : List Moment) → Chain m ns → Held (last m ns)
+  -- at all stages later than the start
+  stood : (m : Stage) (ns : List Stage) → Chain m ns → Held (last m ns)
       → (start .0 < m .second .0 → Held m) × Every (λ n. start .0 < n .second .0 → Pressing side place start n) ns
   unfolding Chain last Every
   stood m [] h e = (λ l. e, tt)
@@ -78,19 +78,19 @@ module _ (side : Side) (place : ℕ) (start : Seconds) where
         (λ l. record { held = r .0 l; pressed = held-pressed (n .state) side place (h .0 .judged) (r .0 l) .1 }, r .1),
       )
 
-  -- and from a moment at that very second on, unless it has stood from the first
-  record Begun (ns : List Moment) : Type 0 where
-    earlier : List Moment
-    began : Moment
-    later : List Moment
+  -- and from a stage at that very second on, unless it has stood from the first
+  record Begun (ns : List Stage) : Type 0 where
+    earlier : List Stage
+    began : Stage
+    later : List Stage
     split : ns ≡ earlier ++ began ∷ later
     at-start : began .second ≡ start
     from-there : Every (Pressing side place start) (began ∷ later)
 
-  abbrev Throughout : Moment → List Moment → Type 0
+  abbrev Throughout : Stage → List Stage → Type 0
   Throughout m ns = Held m × Every (Pressing side place start) ns
 
-  begun : (m : Moment) (ns : List Moment) → Chain m ns → Held (last m ns) → Throughout m ns ⊎ Begun ns
+  begun : (m : Stage) (ns : List Stage) → Chain m ns → Held (last m ns) → Throughout m ns ⊎ Begun ns
   unfolding Chain last Every
   begun m [] h e = inl (e, tt)
   begun m (n ∷ ns) h e = go (begun n ns (h .1) e)
@@ -108,12 +108,12 @@ module _ (side : Side) (place : ℕ) (start : Seconds) where
             earlier = n ∷ b .earlier;
             began = b .began;
             later = b .later;
-            split = ap {B = List Moment} (λ k. n ∷ k) (b .split);
+            split = ap {B = List Stage} (λ k. n ∷ k) (b .split);
             at-start = b .at-start;
             from-there = b .from-there;
           })
 
-  chain-unbroken : (m : Moment) (ns : List Moment) → Chain m ns → Held (last m ns) → (Held m → ⊥) → Unbroken side place start ns
+  chain-unbroken : (m : Stage) (ns : List Stage) → Chain m ns → Held (last m ns) → (Held m → ⊥) → Unbroken side place start ns
   chain-unbroken m ns h e none = go (begun m ns h e)
     where
       go : Throughout m ns ⊎ Begun ns → Unbroken side place start ns
@@ -129,8 +129,8 @@ module _ (side : Side) (place : ℕ) (start : Seconds) where
             ever-since = stood m ns h e .1;
           }
 
--- ---- the moments of a run form a chain, from its first state on
-abbrev now : State → Moment
+-- ---- the stages of a run form a chain, from its first state on
+abbrev now : State → Stage
 now s = record { second = s .clock; state = s }
 
 not-after : {c d : ShiftLine} → Precedes c d → c .second .0 ≤ d .second .0
@@ -138,8 +138,8 @@ not-after (before h) = omega arith
 not-after (up-down e u d) = omega arith
 
 shift-chain : (u : Seconds) (s : State) (cs : List ShiftLine) → Every (λ c. u .0 ≤ c .second .0) cs → Rising cs
-    → Chain (record { second = u; state = s }) (shift-moments s cs)
-unfolding Chain shift-moments Every Rising
+    → Chain (record { second = u; state = s }) (shift-stages s cs)
+unfolding Chain shift-stages Every Rising
 shift-chain u s [] h k = tt
 shift-chain u s (c ∷ cs) h k = (
   record {
@@ -151,23 +151,23 @@ shift-chain u s (c ∷ cs) h k = (
 )
 
 shift-last : (u t : Seconds) (s : State) (cs : List ShiftLine) → u .0 ≤ t .0 → Every (λ c. c .second .0 ≤ t .0) cs
-    → let m : Moment = last (record { second = u; state = s }) (shift-moments s cs) in (m .second .0 ≤ t .0) × (m .state ≡ after cs s)
-unfolding last shift-moments after Every
+    → let m : Stage = last (record { second = u; state = s }) (shift-stages s cs) in (m .second .0 ≤ t .0) × (m .state ≡ after cs s)
+unfolding last shift-stages after Every
 shift-last u t s [] l h = (l, refl)
 shift-last u t s (c ∷ cs) l h = shift-last (c .second) t (onward s c) cs (h .0) (h .1)
 
 -- some first shift lines of an event at t
 module _ (s : State) (t : Seconds) (cs : List ShiftLine) (timely : Every (Timely (s .clock) t (s .end)) cs) where
-  served-chain : Rising cs → Chain (now s) (shift-moments s cs)
+  served-chain : Rising cs → Chain (now s) (shift-stages s cs)
   served-chain r = shift-chain (s .clock) s cs (every-weaker _ _ (λ c k. let h = k .after-clock in omega arith) cs timely) r
 
   served-last : s .clock .0 ≤ t .0
-      → let m : Moment = last (now s) (shift-moments s cs) in (m .second .0 ≤ t .0) × (m .state ≡ after cs s)
+      → let m : Stage = last (now s) (shift-stages s cs) in (m .second .0 ≤ t .0) × (m .state ≡ after cs s)
   served-last l = shift-last (s .clock) t s cs l (every-weaker _ _ (λ c k. k .by-event) cs timely)
 
 -- all of them, and the event
 module _ (s : State) (e : Event) (cs : List ShiftLine) (v : Sound s) (r : Right s e (accepted cs)) where
-  follows : Follows (last (now s) (shift-moments s cs)) (record { second = time e; state = next s e (accepted cs) })
+  follows : Follows (last (now s) (shift-stages s cs)) (record { second = time e; state = next s e (accepted cs) })
   follows =
       let end = served-last s (time e) cs (next-timely s e cs v r) (right-from-clock s e cs r) in
       record {
@@ -177,25 +177,25 @@ module _ (s : State) (e : Event) (cs : List ShiftLine) (v : Sound s) (r : Right 
             rw (end .1) (life-since _ _ (applied-life e (after cs s) side place (after-judged cs s (v .exact))) (unfold next in h));
       }
 
-  accepted-chain : Chain (now s) (event-moments s e (accepted cs))
+  accepted-chain : Chain (now s) (event-stages s e (accepted cs))
   accepted-chain =
       let rising = calls-rising (time e) s cs (v .waits) (unfold Right in r .1) in
       let shifts = served-chain s (time e) cs (next-timely s e cs v r) rising in
-      unfold event-moments in chain-append (now s) (shift-moments s cs) _ shifts (unfold Chain in (follows, tt))
+      unfold event-stages in chain-append (now s) (shift-stages s cs) _ shifts (unfold Chain in (follows, tt))
 
-  accepted-last : last (now s) (event-moments s e (accepted cs)) ≡ now (next s e (accepted cs))
+  accepted-last : last (now s) (event-stages s e (accepted cs)) ≡ now (next s e (accepted cs))
   accepted-last =
-      unfold event-moments last in
-      last-append (now s) (shift-moments s cs) _ ∙ (λ i. record { second = sym (next-clock s e cs r) i; state = next s e (accepted cs) })
+      unfold event-stages last in
+      last-append (now s) (shift-stages s cs) _ ∙ (λ i. record { second = sym (next-clock s e cs r) i; state = next s e (accepted cs) })
 
 event-chain : (s : State) (e : Event) (a : Answer) → Sound s → Right s e a
-    → Chain (now s) (event-moments s e a) × (last (now s) (event-moments s e a) ≡ now (next s e a))
-event-chain s e (refused why) v r = unfold event-moments Chain last next in (tt, refl)
+    → Chain (now s) (event-stages s e a) × (last (now s) (event-stages s e a) ≡ now (next s e a))
+event-chain s e (refused why) v r = unfold event-stages Chain last next in (tt, refl)
 event-chain s e (accepted cs) v r = (accepted-chain s e cs v r, accepted-last s e cs v r)
 
 run-chain : (s : State) (bs : List (List ℕ)) (rs : List Answer) → Sound s → Answers s bs rs
-    → Chain (now s) (moments s bs rs) × (last (now s) (moments s bs rs) ≡ now (reached s bs rs))
-unfolding Answers moments reached
+    → Chain (now s) (stages s bs rs) × (last (now s) (stages s bs rs) ≡ now (reached s bs rs))
+unfolding Answers stages reached
 run-chain s [] rs v h = unfold Chain last in (tt, refl)
 run-chain s (b ∷ bs) [] v h = absurd h
 run-chain s (b ∷ bs) (a ∷ rs) v h = go (run-chain (next s (read b) a) bs rs (next-sound s (read b) a v (h .0)) (h .1))
@@ -203,15 +203,15 @@ run-chain s (b ∷ bs) (a ∷ rs) v h = go (run-chain (next s (read b) a) bs rs 
     n : State
     n = next s (read b) a
 
-    first : Chain (now s) (event-moments s (read b) a) × (last (now s) (event-moments s (read b) a) ≡ now n)
+    first : Chain (now s) (event-stages s (read b) a) × (last (now s) (event-stages s (read b) a) ≡ now n)
     first = event-chain s (read b) a v (h .0)
 
-    go : Chain (now n) (moments n bs rs) × (last (now n) (moments n bs rs) ≡ now (reached n bs rs))
-        → Chain (now s) (event-moments s (read b) a ++ moments n bs rs)
-        × (last (now s) (event-moments s (read b) a ++ moments n bs rs) ≡ now (reached n bs rs))
+    go : Chain (now n) (stages n bs rs) × (last (now n) (stages n bs rs) ≡ now (reached n bs rs))
+        → Chain (now s) (event-stages s (read b) a ++ stages n bs rs)
+        × (last (now s) (event-stages s (read b) a ++ stages n bs rs) ≡ now (reached n bs rs))
     go r = (
-      chain-append (now s) (event-moments s (read b) a) (moments n bs rs) (first .0) (rw (first .1) (r .0)),
-      last-append (now s) (event-moments s (read b) a) (moments n bs rs) ∙ rw (first .1) (r .1),
+      chain-append (now s) (event-stages s (read b) a) (stages n bs rs) (first .0) (rw (first .1) (r .0)),
+      last-append (now s) (event-stages s (read b) a) (stages n bs rs) ∙ rw (first .1) (r .1),
     )
 
 -- ---- the hold behind a shift line
@@ -223,7 +223,7 @@ rising-front (c ∷ cs) ds h = (every-front (Precedes c) cs ds (h .0), rising-fr
 pub pressed-since : (o : State) (past : List (List ℕ)) (told : List Answer) (e : Event) (cs ds : List ShiftLine)
     → (side : Side) (place : ℕ) (start : Seconds) → Sound o → hold-at side o place ≡ Idle → Answers o past told
     → Right (reached o past told) e (accepted (cs ++ ds)) → hold-at side (after cs (reached o past told)) place ≡ Since start
-    → Unbroken side place start (moments o past told ++ shift-moments (reached o past told) cs)
+    → Unbroken side place start (stages o past told ++ shift-stages (reached o past told) cs)
 pressed-since o past told e cs ds side place start v idle h r held =
     let s : State = reached o past told in
     let w : Sound s = sound-reached o past told v h in
@@ -231,7 +231,7 @@ pressed-since o past told e cs ds side place start v idle h r held =
     let timely = every-front _ cs ds (next-timely s e (cs ++ ds) w r) in
     let rising = rising-front cs ds (calls-rising (time e) s (cs ++ ds) (w .waits) (unfold Right in r .1)) in
     let end = served-last s (time e) cs timely (right-from-clock s e (cs ++ ds) r) .1 in
-    chain-unbroken side place start (now o) (moments o past told ++ shift-moments s cs)
-    (chain-append (now o) (moments o past told) (shift-moments s cs) (front .0) (rw (front .1) (served-chain s (time e) cs timely rising)))
-    (rw (last-append (now o) (moments o past told) (shift-moments s cs), front .1, end) held)
+    chain-unbroken side place start (now o) (stages o past told ++ shift-stages s cs)
+    (chain-append (now o) (stages o past told) (shift-stages s cs) (front .0) (rw (front .1) (served-chain s (time e) cs timely rising)))
+    (rw (last-append (now o) (stages o past told) (shift-stages s cs), front .1, end) held)
     (λ k. no-since (sym idle ∙ k))
