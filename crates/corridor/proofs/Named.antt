@@ -112,8 +112,8 @@ module _ (s : Session) (id i : ℕ) (v : Valid s) (w : Walk s id i) where
 
   pub walk-turn : i < s .count → (getD (s .lines) i blank .terms .id ≡ id → ⊥) → Walk s id (i + 1)
   walk-turn g h =
-      let next = unnamed-turn id (view s .lines) i (w .unnamed) (getD (s .lines) i blank) (passing i (s .count) (s .lines) blank g room) h in
-      record { inside = omega arith; unnamed = rw add-one next }
+      let here = passing i (s .count) (s .lines) blank g room in
+      record { inside = omega arith; unnamed = rw add-one (unnamed-turn id (view s .lines) i (w .unnamed) (getD (s .lines) i blank) here h) }
 
   pub walk-all : s .count ≤ i → known id (view s .lines) ≡ false
   walk-all g =

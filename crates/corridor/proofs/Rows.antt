@@ -42,5 +42,6 @@ module _ {A : Type 0} (f : A → A) where
 -- ---- a row of a session
 pub room-at : {s : Session} (i : ℕ) → Ranged s → i < s .count → Room (s .left) (getD (s .lines) i blank)
 room-at {s} i v h =
-    let seen = every-at (Room (s .left)) (take (s .count) (s .lines)) blank i (v .sane .rooms) (omega (arith, length-take-le (s .count) (s .lines) (omega (arith, v .full, v .few)))) in
-    subst (Room (s .left)) (getD-take (s .count) (s .lines) i blank h) seen
+    let long = length-take-le (s .count) (s .lines) (omega (arith, v .full, v .few)) in
+    subst (Room (s .left)) (getD-take (s .count) (s .lines) i blank h)
+    (every-at (Room (s .left)) (take (s .count) (s .lines)) blank i (v .sane .rooms) (omega (arith, long)))

@@ -36,45 +36,48 @@ told-rows (EventAnswer.Refused why) cs made = refl
 pub told-long : {a q : EventAnswer} → a ≡ q → (cs : List ShiftLine) (made : ℕ) → length cs ≡ 16 → made ≤ 16
     → length (told-of a cs made) ≡ 6 * rows-count q made
 told-long {a} {q} e cs made full few =
-    ap length (ap (λ (x : EventAnswer). told-of x cs made) e ∙ told-rows q cs made) ∙ numbers-long (reply-rows q cs made) ∙ ap (λ (n : ℕ). 6 * n) (many q)
+    ap (λ (x : EventAnswer). length (told-of x cs made)) e ∙ ap length (told-rows q cs made) ∙ numbers-long (reply-rows q cs made)
+    ∙ ap (λ (n : ℕ). 6 * n) (many q)
   where
     many : (x : EventAnswer) → length (reply-rows x cs made) ≡ rows-count x made
     many EventAnswer.Accepted = length-map (take made cs) Row.Shift ∙ length-take-le made cs (omega (arith, full, few))
     many (EventAnswer.Refused why) = refl
 
 -- ---- a turn of the loop
-module _ (o : Session) (b : List ℕ) (out : List ℤ) {s : Session} {at from to : ℕ} {now : List ℤ} (h : Ahead o b out s at from now) (g : from < length b) (c : Cut from (length b) to) where
-  abbrev piece : List ℕ
-  piece = take (to - from) (drop from b)
+module _ (o : Session) (b : List ℕ) (out : List ℤ) {s : Session} {at from to : ℕ} {now : List ℤ} where
+  module _ (h : Ahead o b out s at from now) (g : from < length b) (c : Cut from (length b) to) where
+    abbrev piece : List ℕ
+    piece = take (to - from) (drop from b)
 
-  right : Right (view s) (read piece) (answer (view s) (read piece))
-  right = unfold run Answers in run-right (view s) (piece ∷ []) (h .valid .sound) .0
+    right : Right (view s) (read piece) (answer (view s) (read piece))
+    right = unfold run Answers in run-right (view s) (piece ∷ []) (h .valid .sound) .0
 
-  -- the array has 16 places, and as many numbers are left as the rows take
-  record Fits (r : Reply) : Type 0 where
-    few : r .made ≤ 16
-    full : length (r .shifts) ≡ 16
-    room : at + 6 * rows-count (r .answer) (r .made) ≤ length out
+    -- the array has 16 places, and as many numbers are left as the rows take
+    record Fits (r : Reply) : Type 0 where
+      few : r .made ≤ 16
+      full : length (r .shifts) ≡ 16
+      room : at + 6 * rows-count (r .answer) (r .made) ≤ length out
 
-  fits : (q : Answer) → Right (view s) (read piece) q → Fits (reply-of s (read piece) q)
-  unfolding reply-of
-  fits (accepted cs) q =
-      let n = next-count (view s) (read piece) (accepted cs) (h .valid .sound) q in
-      let few : length cs ≤ 16 = omega (arith, n, h .valid .sane .left) in
-      record { few = few; full = padded-length 16 no-shift cs few; room = omega (arith, n, h .left) }
-  fits (refused why) q = record { few = omega arith; full = length-replicate 16 no-shift; room = omega (arith, fewer b c, h .left) }
+    fits : (q : Answer) → Right (view s) (read piece) q → Fits (reply-of s (read piece) q)
+    unfolding reply-of
+    fits (accepted cs) q =
+        let n = next-count (view s) (read piece) (accepted cs) (h .valid .sound) q in
+        let few : length cs ≤ 16 = omega (arith, n, h .valid .sane .left) in
+        record { few = few; full = padded-length 16 no-shift cs few; room = omega (arith, n, h .left) }
+    fits (refused why) q = record { few = omega arith; full = length-replicate 16 no-shift; room = omega (arith, fewer b c, h .left) }
 
-  module _ (r : Reply) (e : r ≡ reply-to s piece) where
-    fit : Fits r
-    fit = rw e (fits (answer (view s) (read piece)) right)
+    module _ (r : Reply) (e : r ≡ reply-to s piece) where
+      fit : Fits r
+      fit = rw e (fits (answer (view s) (read piece)) right)
 
-    long : length (told-of (r .answer) (r .shifts) (r .made)) ≡ 6 * rows-count (r .answer) (r .made)
-    long = told-long {a = r .answer} refl (r .shifts) (r .made) (fit .full) (fit .few)
+      long : length (told-of (r .answer) (r .shifts) (r .made)) ≡ 6 * rows-count (r .answer) (r .made)
+      long = told-long {a = r .answer} refl (r .shifts) (r .made) (fit .full) (fit .few)
 
-    pub step-fits : (r .made ≤ 16) × (at + length (told-of (r .answer) (r .shifts) (r .made)) ≤ length now)
-    step-fits = (fit .few, omega (arith, fit .room, long, ahead-long o b out h))
+      pub step-fits : (r .made ≤ 16) × (at + length (told-of (r .answer) (r .shifts) (r .made)) ≤ length now)
+      step-fits = (fit .few, omega (arith, fit .room, long, ahead-long o b out h))
 
-    pub step-turn : (k : ℕ) → k ≡ at + length (told-of (r .answer) (r .shifts) (r .made)) → (then : List ℤ)
-        → then ≡ written now at (told-of (r .answer) (r .shifts) (r .made)) → Ahead o b out (r .session) k to then
-    step-turn k f then wrote =
-        ahead-turn o b out h g c r e k (omega (arith, f, long)) then (wrote ∙ ap (written now at) (told-rows (r .answer) (r .shifts) (r .made)))
+      pub step-turn : (k : ℕ) → k ≡ at + length (told-of (r .answer) (r .shifts) (r .made)) → (then : List ℤ)
+          → then ≡ written now at (told-of (r .answer) (r .shifts) (r .made)) → Ahead o b out (r .session) k to then
+      step-turn k f then wrote =
+          ahead-turn o b out h g c r e k (omega (arith, f, long)) then
+          (wrote ∙ ap (written now at) (told-rows (r .answer) (r .shifts) (r .made)))

@@ -4,7 +4,6 @@ use mathlib.Core.List.{List}
 use Prim.Native.Nat.{ℕ}
 use lib.IntN.{ℤ}
 use lib.ListN.{length}
-use Rattle.method.specs.declared.Line.{Line}
 use Rattle.method.specs.declared.Side.the-variants.{Up, Down}
 use Rattle.method.specs.Types.{State}
 use Rattle.method.specs.Table.{opening}
@@ -19,7 +18,7 @@ use Rattle.corridor.specs.declared.Session.{Session}
 use Rattle.corridor.specs.declared.RowsAnswer.{RowsAnswer}
 use Rattle.corridor.specs.declared.Fed.{Fed}
 use Rattle.corridor.specs.View.{view, opened-session}
-use Rattle.corridor.specs.Engine.{one-by-one, left-after}
+use Rattle.corridor.specs.Engine.{one-by-one}
 use Rattle.corridor.proofs.Theorems.{valid-open, one-answer}
 use Rattle.corridor.proofs.Chunks.{fed-is, fed-into-is}
 use Rattle.corridor.proofs.Engine.{engine-is-right, feeding-is-the-same}

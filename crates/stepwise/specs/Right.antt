@@ -36,7 +36,8 @@ abbrev pub StepwiseIsRight : Type 0
 StepwiseIsRight =
     (table : List ℕ) (o : State) → opening table ≡ opened o → (b : List ℕ) (out : List ℤ) → room (length b) ≤ length out
     → let s : Session = opened-session (opening table) .session in
-    (r : Fed) (now : List ℤ) → r ≡ fed s (length out) b → now ≡ fed-into s out b → Rightly o (events-of b) (one-by-one s (events-of b)) out r now
+    (r : Fed) (now : List ℤ) → r ≡ fed s (length out) b → now ≡ fed-into s out b
+    → Rightly o (events-of b) (one-by-one s (events-of b)) out r now
 
 -- What meets the contract of this crate's `feed` and what meets that of `Session::feed` are the same. [same-as-feed]
 abbrev pub SameAsFeed : Type 0

@@ -1,5 +1,5 @@
 -- `stepwise::feed` meets its contract. Assumes nothing.
-use mathlib.Core.Path.{_≡_, refl}
+use mathlib.Core.Path.{_≡_}
 use Prim.Native.Nat.{_-_}
 use native.Mathlib.Omega.{arith}
 use lib.ListN.{length}
@@ -30,13 +30,15 @@ returns c =
 loop-holds : tie.Need-loop-holds Inv-loop μ-loop
 loop-holds c =
     let s = c .before .before .before in
-    ahead-start (s .args .first) (now (s .args .events)) (now (s .args .out)) (s .pre) (omega (arith, c .before .room .ensures, c .if1 .left))
+    ahead-start (s .args .first) (now (s .args .events)) (now (s .args .out)) (s .pre)
+    (omega (arith, c .before .room .ensures, c .if1 .left))
 
 cut-requires : tie.Need-cut-requires Inv-loop μ-loop
 cut-requires c κs = c .loop-test .taken
 
 -- ---- the piece at hand
-cut : (c : tie.After-cut Inv-loop μ-loop) → Cut (c .before .before .loop .from) (length (now (c .before .before .before .before .before .before .args .events))) (c .cut .result)
+cut : (c : tie.After-cut Inv-loop μ-loop)
+    → Cut (c .before .before .loop .from) (length (now (c .before .before .before .before .before .before .args .events))) (c .cut .result)
 cut c = cut-is _ _ _ (c .before .loop-test .taken) (c .cut .ensures)
 
 sub-event : tie.Need-sub-event Inv-loop μ-loop
@@ -56,7 +58,8 @@ told-requires c κs =
     let s = c .before .before .before .before .before .before .before .before .before .before .before in
     let at = c .before .before .before .before .before .before .before .loop in
     let e = c .before .before .before .event in
-    step-fits (s .args .first) (now (s .args .events)) (now (s .args .out)) (at .inv) (c .before .before .before .before .before .before .loop-test .taken) (cut (c .before .before .before .before .before))
+    step-fits (s .args .first) (now (s .args .events)) (now (s .args .out)) (at .inv)
+    (c .before .before .before .before .before .before .loop-test .taken) (cut (c .before .before .before .before .before))
     (e .result) (e .ensures)
 
 loop-less : tie.Need-loop-less Inv-loop μ-loop
@@ -69,7 +72,8 @@ loop-again c =
     let k = cut (c .before .before .before .before .before .before .before) in
     let e = c .before .before .before .before .before .event in
     let t = c .before .told in
-    step-turn (s .args .first) (now (s .args .events)) (now (s .args .out)) (at .inv) (c .before .before .before .before .before .before .before .before .loop-test .taken) k
+    step-turn (s .args .first) (now (s .args .events)) (now (s .args .out)) (at .inv)
+    (c .before .before .before .before .before .before .before .before .loop-test .taken) k
     (e .result) (e .ensures) (t .result) (t .ensures .0) _ (t .ensures .1)
 
 same-length : tie.Need-same-length Inv-loop μ-loop
@@ -82,8 +86,10 @@ returns-2 c =
     let s = c .before .before .before .before .before in
     let at = c .before .loop in
     let last : at .from ≡ length (now (s .args .events)) = omega (arith, at .inv .inside) in (
-      all-fed (s .args .first) (now (s .args .events)) (now (s .args .out)) (at .inv) last (omega (arith, c .before .before .before .room .ensures, c .before .before .if1 .left)),
-      all-into (s .args .first) (now (s .args .events)) (now (s .args .out)) (at .inv) last (omega (arith, c .before .before .before .room .ensures, c .before .before .if1 .left)),
+      all-fed (s .args .first) (now (s .args .events)) (now (s .args .out)) (at .inv) last
+          (omega (arith, c .before .before .before .room .ensures, c .before .before .if1 .left)),
+      all-into (s .args .first) (now (s .args .events)) (now (s .args .out)) (at .inv) last
+          (omega (arith, c .before .before .before .room .ensures, c .before .before .if1 .left)),
     )
 
 pub feed-spec : {M : Type 1} → statement M
