@@ -13,7 +13,7 @@ use Rattle.method.specs.Shift.{after}
 use Rattle.method.specs.Event.{read, verdict, applied, Answer, accepted, refused, next}
 use Rattle.method.specs.CalledFor.{Done, time, Right, Answers, reached, lines-of, joined}
 use Rattle.method.specs.Search.{serve, answered, answer, run, finally}
-use Rattle.method.specs.Ranges.{Every, Opened}
+use Rattle.method.specs.Ranges.{Every, LineIn}
 use Rattle.method.specs.Sound.{Exact, Sound}
 use Rattle.method.specs.Rule2Words.{hold-at, Precedes, before, Rising, Timely, Reported}
 use Rattle.method.proofs.Every.{every-weaker, every-append}
@@ -24,7 +24,7 @@ use Rattle.method.proofs.HoldLife.{Judged, no-since, blank-idle, applie
 use Rattle.method.proofs.Serving.{serve-calls, calls-unique, calls-rising, Kept, after-kept, after-judged, after-left, calls-left, calls-done, calls-timely}
 
 -- ---- a session is sound at opening
-opened-idle : (side : Side) (ls : List Line) (n : ℕ) → Every Opened ls → hold-of side (getD ls n blank .holds) ≡ Idle
+opened-idle : (side : Side) (ls : List Line) (n : ℕ) → Every LineIn ls → hold-of side (getD ls n blank .holds) ≡ Idle
 unfolding Every
 opened-idle side [] n h = blank-idle side
 opened-idle side (l ∷ ls) zero h = rw (h .0 .holds) (blank-idle side)
@@ -39,7 +39,7 @@ sound-opening table o e =
     let i = accepted-table table o e .state in
     record {
       waits = i .hold .least;
-      exact = every-weaker Opened (Exact (o .near) (o .left)) (exact-opened (o .near) (o .left)) (o .lines) (i .lines);
+      exact = every-weaker LineIn (Exact (o .near) (o .left)) (exact-opened (o .near) (o .left)) (o .lines) (i .lines);
       served = unfold Done in λ x k q. absurd (no-since (sym (opening-idle table o e (x .side) (x .place)) ∙ k .held));
     }
 

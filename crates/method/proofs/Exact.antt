@@ -8,7 +8,7 @@ use Rattle.method.specs.Opening.{under-watch}
 use Rattle.method.specs.Pressure.{close, presses, judged, judge}
 use Rattle.method.specs.Shift.{shift-line, moved-line, shifted}
 use Rattle.method.specs.Event.{with-book, quoted-line, applied}
-use Rattle.method.specs.Ranges.{Every, Opened}
+use Rattle.method.specs.Ranges.{Every, LineIn}
 use Rattle.method.specs.Sound.{standing, Exact}
 use Rattle.method.proofs.Every.{every-map, every-all, every-quoted}
 
@@ -47,7 +47,7 @@ silent true true = refl
 silent true false = refl
 silent false b = refl
 
-pub exact-opened : (near : Millionths) (left : ℕ) (l : Line) → Opened l → Exact near left l
+pub exact-opened : (near : Millionths) (left : ℕ) (l : Line) → LineIn l → Exact near left l
 unfolding Exact presses close
 exact-opened near left l o Up = rw (o .book, o .holds) (silent (ltb 0 left) (under-watch (l .terms .flags)))
 exact-opened near left l o Down = rw (o .book, o .holds) (silent (ltb 0 left) (under-watch (l .terms .flags)))

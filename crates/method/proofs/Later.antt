@@ -15,7 +15,7 @@ use Rattle.method.specs.Pressure.{hold-of, presses}
 use Rattle.method.specs.Shift.{shifted, onward, after}
 use Rattle.method.specs.Event.{Answer, accepted, refused, read, next}
 use Rattle.method.specs.CalledFor.{First, Calls, time, Right, Answers, reached, lines-of, joined}
-use Rattle.method.specs.Ranges.{Every, OpeningIn, Opened, Sane}
+use Rattle.method.specs.Ranges.{Every, OpeningIn, LineIn, Sane}
 use Rattle.method.specs.Sound.{standing, Exact}
 use Rattle.method.specs.Later.{Later, start, shift, event}
 use Rattle.method.proofs.Every.{every-weaker, every-else}
@@ -110,7 +110,7 @@ pub record Held (s : State) : Type 0 where
 
 pub held-opening : (s : State) → OpeningIn s → Held s
 held-opening s o =
-    record { sane = sane-opening s o; exact = every-weaker Opened (Exact (s .near) (s .left)) (exact-opened (s .near) (s .left)) (s .lines) (o .lines) }
+    record { sane = sane-opening s o; exact = every-weaker LineIn (Exact (s .near) (s .left)) (exact-opened (s .near) (s .left)) (s .lines) (o .lines) }
 
 held-onward : (t : Seconds) (s : State) (c : ShiftLine) → Held s → First t s c → Held (onward s c)
 held-onward t s c h f =

@@ -17,7 +17,7 @@ use Rattle.numbers.proofs.Tests.{both, lt-false, le-true, in-range-true, betwee
 use Rattle.method.specs.Types.{Steps, Millionths, Key, Contract, Line, LineAnswer, TableReason}
 use Rattle.method.specs.Growth.{rate-at, exponent, most-exponent}
 use Rattle.method.specs.Opening.{rates-good, fields-good, id-good, normal-price, half-width, market-of, half-move, terms-of, corridor, inside-bounds, fresh-line, opened-with, open-line}
-use Rattle.method.specs.Ranges.{ContractIn, MarketIn, Opened}
+use Rattle.method.specs.Ranges.{ContractIn, MarketIn, LineIn}
 use Rattle.method.proofs.Demands.{met-by}
 use Rattle.method.proofs.Growth.{factors-in}
 use Rattle.method.proofs.Corridor.{corridor-in}
@@ -100,7 +100,7 @@ half-move-most shift half1 s r =
 -- ---- the whole line
 module _ (shift : Millionths) (y : ℕ) (c : Contract) (s : Between 1 1_000_000 (shift .0)) (r : ContractIn c) where
   line-in : 0 < c .id → y ≤ most-exponent → pos 1 ≤ℤ (terms-of shift y c .halfmove .0) → inside-bounds (terms-of shift y c) (market-of c) (corridor (c .width) (terms-of shift y c) (market-of c)) ≡ true
-      → Opened (fresh-line (terms-of shift y c) (market-of c) (corridor (c .width) (terms-of shift y c) (market-of c)))
+      → LineIn (fresh-line (terms-of shift y c) (market-of c) (corridor (c .width) (terms-of shift y c) (market-of c)))
   unfolding fresh-line terms-of
   line-in id cap moves inside =
       let f = factors-in y cap in
@@ -128,7 +128,7 @@ same-line : {k l : Line} → LineAnswer.Opened k ≡ LineAnswer.Opened l → k �
 same-line e = cc
 
 pub open-line-in : (shift : Millionths) (keys : List Key) (earlier : List Line) (c : Contract) (l : Line) → Between 1 1_000_000 (shift .0)
-    → open-line shift keys earlier c ≡ LineAnswer.Opened l → Opened l
+    → open-line shift keys earlier c ≡ LineAnswer.Opened l → LineIn l
 unfolding open-line opened-with id-good
 open-line-in shift keys earlier c l s e =
     let fields = met-by (fields-good c) not-opened e in
@@ -137,6 +137,6 @@ open-line-in shift keys earlier c l s e =
     let cap = met-by (leb y most-exponent) not-opened (id .1) in
     let moves = met-by (leZ (pos 1) (terms-of shift y c .halfmove .0)) not-opened (cap .1) in
     let inside = met-by (inside-bounds (terms-of shift y c) (market-of c) (corridor (c .width) (terms-of shift y c) (market-of c))) not-opened (moves .1) in
-    subst Opened (same-line (inside .1))
+    subst LineIn (same-line (inside .1))
     (line-in shift y c s (contract-in c (fields .0)) (ltb-true 0 (c .id) (both _ _ (id .0) .0)) (leb-true y most-exponent (cap .0))
     (le-true (pos 1) (terms-of shift y c .halfmove .0) (moves .0)) (inside .0))

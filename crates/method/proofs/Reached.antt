@@ -9,7 +9,7 @@ use Rattle.method.specs.Types.{Side, Up, Down, Limits, Line, Quote, Even
 use Rattle.method.specs.Pressure.{judge}
 use Rattle.method.specs.Shift.{shift-line, shifted, onward}
 use Rattle.method.specs.Event.{quoted-line, read, applied}
-use Rattle.method.specs.Ranges.{Every, Opened, OpeningIn, Room}
+use Rattle.method.specs.Ranges.{Every, LineIn, OpeningIn, Room}
 use Rattle.method.specs.Later.{Later, start, shift, event}
 use Rattle.method.specs.Rule2Words.{Each}
 use Rattle.method.specs.Rule3Words.{alike, count, Shifted}
@@ -41,7 +41,7 @@ count-last side (b ∷ cs) c = omega (arith, count-last side cs c)
 -- ---- each line stands where the shifts, and they alone, have brought it
 pub shifted-moment : {o s : State} {cs : List ShiftLine} → OpeningIn o → Later o cs s
     → Each (Shifted (count Up cs) (count Down cs)) (o .lines) (s .lines)
-shifted-moment {o} i start = unfold count in each-same Opened (Shifted 0 0) shifted-start (o .lines) (i .lines)
+shifted-moment {o} i start = unfold count in each-same LineIn (Shifted 0 0) shifted-start (o .lines) (i .lines)
 shifted-moment {o} i (shift {cs} {s} m t c f) =
     subst₂ (λ (u d : ℕ). Each (Shifted u d) (o .lines) (onward s c .lines)) (count-last Up cs c) (count-last Down cs c)
     (each-onward (Shifted (count Up cs) (count Down cs)) _ (o .lines) s c (held-moment (held-opening o i) m .sane .rooms)

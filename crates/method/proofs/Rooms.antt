@@ -14,7 +14,7 @@ use Rattle.method.specs.Bounds.{market-bound, factor, interest, bound}
 use Rattle.method.specs.Pressure.{presses, judged, judge}
 use Rattle.method.specs.Shift.{toward, moved, ended, moved-line, shift-line}
 use Rattle.method.specs.Event.{quoted-line}
-use Rattle.method.specs.Ranges.{FactorsIn, Opened, reach, MarketRoom, PriceIn, HoldIn, HoldsIn, Room}
+use Rattle.method.specs.Ranges.{FactorsIn, LineIn, reach, MarketRoom, PriceIn, HoldIn, HoldsIn, Room}
 use Rattle.method.proofs.Redrawn.{limits-moved}
 
 -- ---- interest bounds and limits within 2,970,000,000
@@ -138,7 +138,7 @@ absent-in : PriceIn Absent
 unfolding PriceIn
 absent-in = tt
 
-pub room-opened : {left : ℕ} {l : Line} → left ≤ 16 → Opened l → Room left l
+pub room-opened : {left : ℕ} {l : Line} → left ≤ 16 → LineIn l → Room left l
 room-opened few o =
     record {
       terms = o .terms;

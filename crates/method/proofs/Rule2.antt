@@ -9,7 +9,7 @@ use Rattle.method.specs.Shift.{onward, after}
 use Rattle.method.specs.Event.{read, Answer, next}
 use Rattle.method.specs.CalledFor.{First, Calls, time, Right, Answers, reached}
 use Rattle.method.specs.Search.{run}
-use Rattle.method.specs.Ranges.{Opened}
+use Rattle.method.specs.Ranges.{LineIn}
 use Rattle.method.specs.Sound.{Sound}
 use Rattle.method.specs.Rule2Words.{Caller, Timely}
 use Rattle.method.specs.Rules.{
@@ -75,7 +75,7 @@ sound-told table o e past told h = sound-reached o past told (sound-opening tabl
 pub rule2-at-opening : EmptyAtOpening
 rule2-at-opening table o e =
     let i = accepted-table table o e .state in
-    (every-weaker Opened _ (λ l r. r .book) (o .lines) (i .lines), i .clock)
+    (every-weaker LineIn _ (λ l r. r .book) (o .lines) (i .lines), i .clock)
 
 pub rule2-books-over-a-shift : BookOverShift
 rule2-books-over-a-shift s c = each-weaker Alike _ (λ l n a. a .book) (s .lines) (onward s c .lines) (alike-onward s c)

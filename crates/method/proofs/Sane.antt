@@ -5,7 +5,7 @@ use native.Mathlib.Omega.{arith}
 use Rattle.method.specs.Types.{Side, Seconds, Event, Damaged, Tick, Quoted, State, EventAnswer}
 use Rattle.method.specs.Shift.{shift-line, shifted}
 use Rattle.method.specs.Event.{verdict, applied}
-use Rattle.method.specs.Ranges.{Opened, OpeningIn, Room, Sane, EventIn}
+use Rattle.method.specs.Ranges.{LineIn, OpeningIn, Room, Sane, EventIn}
 use Rattle.method.proofs.Every.{every-map, every-weaker}
 use Rattle.method.proofs.Every.{every-quoted}
 use Rattle.method.proofs.Events.{on-time}
@@ -19,7 +19,7 @@ sane-opening s o =
       clock = rw (o .clock) (omega arith);
       left = o .left;
       near = o .near;
-      rooms = every-weaker Opened (Room (s .left)) (λ l. room-opened (o .left)) (s .lines) (o .lines);
+      rooms = every-weaker LineIn (Room (s .left)) (λ l. room-opened (o .left)) (s .lines) (o .lines);
     }
 
 pub sane-shifted : (side : Side) (now : Seconds) (s : State) → 0 < s .left → now .0 ≤ 172_800 → Sane s → Sane (shifted side now s)

@@ -14,7 +14,7 @@ use Rattle.method.specs.Opening.{permits-negative}
 use Rattle.method.specs.Pressure.{judge}
 use Rattle.method.specs.Shift.{toward, moved, redrawn, moved-line, shift-line}
 use Rattle.method.specs.Event.{quoted-line}
-use Rattle.method.specs.Ranges.{Floor, Opened, Room}
+use Rattle.method.specs.Ranges.{Floor, LineIn, Room}
 use Rattle.method.specs.Rule3Words.{alike, margin, FloorMet, at-opening, in-a-shift, Lower, exactly, at-floor, Shifted}
 use Rattle.method.proofs.Bounds.{bound-kept, lower-falls}
 use Rattle.method.proofs.Floor.{Floored, free, met, floor-of, floored-upper}
@@ -119,7 +119,7 @@ module _ (o l : Line) (p : Book) (h : Holds) where
       (floor-of (permits-negative (l .terms .flags)) _) r
 
 -- ---- the whole line: as opened, shifted, quoted
-pub shifted-start : (l : Line) → Opened l → Shifted 0 0 l l
+pub shifted-start : (l : Line) → LineIn l → Shifted 0 0 l l
 shifted-start l v =
     record {
       terms = refl;

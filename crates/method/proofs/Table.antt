@@ -12,7 +12,7 @@ use Rattle.numbers.proofs.Tests.{both, in-range-true}
 use Rattle.method.specs.Types.{Header, Key, Contract, Line, LineAnswer, TableReason, State}
 use Rattle.method.specs.Opening.{open-line}
 use Rattle.method.specs.Table.{header-of, keys-at, contracts-start, contracts-at, header-good, laid-out, key-good, bad-key, opened, refused, opening-state, if-opened, open-lines, if-keys-good, open-records, opening}
-use Rattle.method.specs.Ranges.{KeyIn, KeysIn, HeaderIn, Every, Opened, OpeningIn}
+use Rattle.method.specs.Ranges.{KeyIn, KeysIn, HeaderIn, Every, LineIn, OpeningIn}
 use Rattle.method.proofs.Every.{every-last}
 use Rattle.method.proofs.Demands.{met-by}
 use Rattle.method.proofs.Opening.{open-line-in}
@@ -69,9 +69,9 @@ same-state e = cc
 record Lines (earlier n : ℕ) (h : Header) (s : State) : Type 0 where
   state : s ≡ opening-state h (s .lines)
   count : length (s .lines) ≡ earlier + n
-  lines : Every Opened (s .lines)
+  lines : Every LineIn (s .lines)
 
-open-lines-in : (h : Header) (keys : List Key) (line : ℕ) (earlier : List Line) (cs : List Contract) (s : State) → HeaderIn h → Every Opened earlier
+open-lines-in : (h : Header) (keys : List Key) (line : ℕ) (earlier : List Line) (cs : List Contract) (s : State) → HeaderIn h → Every LineIn earlier
     → open-lines h keys line earlier cs ≡ opened s → Lines (length earlier) (length cs) h s
 unfolding open-lines
 open-lines-in h keys line earlier [] s i ok e =
@@ -84,9 +84,9 @@ open-lines-in h keys line earlier (c ∷ cs) s i ok e =
 
     go : (a : LineAnswer) → open-line (h .shift) keys earlier c ≡ a
         → if-opened a line (λ (l : Line). open-lines h keys (suc line) (earlier ++ (l ∷ [])) cs) ≡ opened s
-        → ((l : Line) → Every Opened (earlier ++ (l ∷ [])) → open-lines h keys (suc line) (earlier ++ (l ∷ [])) cs ≡ opened s → Lines (length (earlier ++ (l ∷ []))) (length cs) h s)
+        → ((l : Line) → Every LineIn (earlier ++ (l ∷ [])) → open-lines h keys (suc line) (earlier ++ (l ∷ [])) cs ≡ opened s → Lines (length (earlier ++ (l ∷ []))) (length cs) h s)
         → Lines (length earlier) (length (c ∷ cs)) h s
-    go (LineAnswer.Opened l) q e rest = more l (rest l (every-last Opened earlier l ok (open-line-in (h .shift) keys earlier c l (i .shift) q)) e)
+    go (LineAnswer.Opened l) q e rest = more l (rest l (every-last LineIn earlier l ok (open-line-in (h .shift) keys earlier c l (i .shift) q)) e)
     go (LineAnswer.Refused why) q e rest = absurd (not-opened e)
 
 -- ---- the table

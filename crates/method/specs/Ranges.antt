@@ -107,7 +107,8 @@ empty-book = record { bid = Absent; ask = Absent }
 abbrev pub no-holds : Holds
 no-holds = record { up = Idle; down = Idle }
 
-pub record Opened (l : Line) : Type 0 where
+-- a line as it opens
+pub record LineIn (l : Line) : Type 0 where
   pub terms : TermsIn (l .terms)
   pub market : MarketIn (l .market)
   pub limits : LimitsIn (l .terms) (l .market) (l .limits)
@@ -121,7 +122,7 @@ Every P (x ∷ xs) = P x × Every P xs
 
 pub record OpeningIn (s : State) : Type 0 where
   pub count : Between 1 32 (length (s .lines))
-  pub lines : Every Opened (s .lines)
+  pub lines : Every LineIn (s .lines)
   pub clock : s .clock ≡ seconds 0
   pub end : Between 1 172_800 (s .end .0)
   pub hold : Between 1 3_600 (s .hold .0)
