@@ -1,4 +1,4 @@
-// What every limit is held against: market bounds and interest bounds of a line, and the floor of one step.
+// Market bounds and interest bounds of a line; beside them the floor of one step under its lower limit, and rounding toward a side.
 
 ghost use mathlib.Core.Path.{_≡_};
 ghost use Prim.Native.Nat.{_≤_};

@@ -1,19 +1,17 @@
 -- The session that a table opens is the method's state, written over a session with no lines. Assumes nothing.
 use mathlib.Core.Path.{_≡_, refl, ap, sym, _∙_}
-use mathlib.Core.List.{List, [], _∷_, _++_}
+use mathlib.Core.List.{List, _++_}
 use Prim.Native.Nat.{ℕ, zero, suc, _-_}
 use native.Mathlib.Omega.{arith}
 use lib.ListN.{length, drop, replicate}
-use Rattle.numbers.specs.Arrays.{padded}
 use Rattle.method.specs.Types.{State, blank, seconds}
 use Rattle.method.specs.Table.{Opening, opened, refused, opening}
 use Rattle.method.proofs.Table.{accepted-table}
 use Rattle.table.specs.declared.Opened.{Opened as Table}
 use Rattle.table.specs.Opened.{opened-as}
-use Rattle.corridor.specs.Names.{Line, TableAnswer}
-use Rattle.corridor.specs.declared.Session.{Session}
+use Rattle.corridor.specs.Names.{TableAnswer}
 use Rattle.corridor.specs.declared.Opened.{Opened}
-use Rattle.corridor.specs.View.{put, no-session, opened-session}
+use Rattle.corridor.specs.View.{opened-session}
 
 drop-replicate : {A : Type 0} (n m : ℕ) (d : A) → drop n (replicate m d) ≡ replicate (m - n) d
 drop-replicate zero m d = let e : m ≡ m - 0 = omega arith in ap (λ (k : ℕ). replicate k d) e

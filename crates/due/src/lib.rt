@@ -79,7 +79,7 @@ pub fn passed(wait: Seconds, place: usize, h: Holds, best: Found) -> Found
     sooner(first, due_of(Side::Down, wait, place, down))
 }
 
-// What is due at t, before session end, while shifts are left.
+// The hold, where it is due at or before t and before session end, while shifts are left.
 pub fn in_time(t: Seconds, end: Seconds, left: u32, d: Found) -> Found
     ensures { λ r. ⌜ r ≡ in-time t end left d ⌝ }
 {

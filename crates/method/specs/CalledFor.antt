@@ -25,7 +25,7 @@ abbrev pub due-at : ShiftLine → ℕ → Due
 due-at c place = record { second = c .second; side = c .side; place = place }
 
 -- c is the shift line ("second, side, id that called") of the hold that goes first of all that stand; it is due at or before t, and
--- before session end
+-- before session end. That shifts are left needs no test: where none is left, no hold stands (`judge`).
 pub record First (t : Seconds) (s : State) (c : ShiftLine) : Type 0 where
   pub place : ℕ
   pub stands : Stands s (due-at c place)

@@ -2,7 +2,7 @@
 use mathlib.Core.Path.{_≡_, refl}
 use mathlib.Core.List.{List, [], _∷_, map}
 use Prim.Native.Nat.{ℕ}
-use lib.IntN.{ℤ, pos, negsuc}
+use lib.IntN.{pos, negsuc}
 use Rattle.method.specs.Types.{Key, Contract, millionths}
 use Rattle.method.specs.Wire.{word, signed, bit}
 use Rattle.method.specs.Refusals.{table-number, event-number}

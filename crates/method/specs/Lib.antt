@@ -8,9 +8,9 @@ pub mod Table
 pub mod Pressure
 pub mod Shift
 pub mod Event
-pub mod Report
 pub mod CalledFor
 pub mod Search
+pub mod Report
 pub mod Program
 pub mod Inputs
 pub mod Figures

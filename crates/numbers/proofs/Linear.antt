@@ -1,6 +1,6 @@
 -- Laws of order, sum and product of whole numbers that the library lacks. Assumes nothing.
 -- `_≤ℤ_` binds more tightly than `_+ℤ_`: a sum beside it stands in parentheses.
-use mathlib.Core.Path.{_≡_, ap}
+use mathlib.Core.Path.{_≡_}
 use mathlib.Core.Logic.{_⊎_, inl, inr}
 use Prim.Native.Nat.{ℕ, zero, suc, _+_, _*_, _≤_}
 use native.Mathlib.Decide.{decLe}
@@ -9,7 +9,7 @@ use native.Mathlib.Omega.{arith}
 use lib.IntN.{ℤ, pos, negsuc, _+ℤ_, _*ℤ_}
 use lib.Signed.{_≤ℤ_, _<ℤ_}
 use Rattle.numbers.specs.Ranges.{over, under}
-use Rattle.numbers.proofs.Halves.{zarith, le-halves, halves-le, halves-lt, add-is, mul-is}
+use Rattle.numbers.proofs.Halves.{zarith, le-halves, halves-le, halves-lt, mul-is}
 
 pub ≤ℤ-trans : {a b c : ℤ} → a ≤ℤ b → b ≤ℤ c → a ≤ℤ c
 ≤ℤ-trans h k = omega zarith
@@ -25,10 +25,6 @@ le-or-lt a b = go (decLe (over a + under b) (over b + under a))
     go (no p) = inr (halves-lt b a (omega arith))
 
 -- by a factor that is not negative
-pub distr : (a b : ℤ) (k : ℕ) → (a +ℤ b) *ℤ pos k ≡ a *ℤ pos k +ℤ b *ℤ pos k
-distr a b k =
-    omega (zarith, ap (λ (n : ℕ). n * k) (add-is a b), mul-is (a +ℤ b) k, mul-is a k, mul-is b k, add-is (a *ℤ pos k) (b *ℤ pos k))
-
 pub mul-mono : {a b : ℤ} (k : ℕ) → a ≤ℤ b → (a *ℤ pos k) ≤ℤ (b *ℤ pos k)
 mul-mono {a} {b} k h = omega (zarith, mul-is a k, mul-is b k, mul-le-mul-right k (le-halves h))
 

@@ -6,7 +6,6 @@ use Prim.Native.Nat.{ℕ}
 use native.Mathlib.Omega.{arith}
 use borrow.Author.Tests.{ltb-true}
 use lib.Dec.{ltb}
-use lib.IntN.{ℤ}
 use lib.ListN.{take, drop}
 use Rattle.method.specs.declared.Row.the-variants as Row
 use Rattle.method.specs.Types.{State}

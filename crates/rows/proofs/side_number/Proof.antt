@@ -1,7 +1,6 @@
 -- `rows::side_number` meets its contract. Assumes nothing.
 use borrow.Author.Needs.{needs}
 use mathlib.Core.Path.{refl}
-use Rattle.method.specs.Program.{side-number}
 use Rattle.rows.proofs.side_number.Statement.{statement}
 use Rattle.rows.proofs.side_number.Tie as tie
 

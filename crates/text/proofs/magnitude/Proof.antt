@@ -1,10 +1,9 @@
 -- `text::magnitude` meets its contract. Assumes nothing.
 use Rattle.text.proofs.Signs.{below, above, flipped}
-use mir.ValLaws.{toZ-ofZ, toZ-pos}
+use mir.ValLaws.{toZ-pos}
 use mir.Syntax.{w64}
 use native.Mathlib.Numerals.{add-one}
 use native.Mathlib.Omega.{arith}
-use Prim.Native.Nat.{suc}
 use borrow.Author.Needs.{needs}
 use Rattle.text.proofs.magnitude.Statement.{statement}
 use Rattle.text.proofs.magnitude.Tie as tie
