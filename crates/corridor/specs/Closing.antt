@@ -11,10 +11,14 @@ use Rattle.corridor.specs.declared.Session.{Session}
 use Rattle.corridor.specs.declared.RowsAnswer.{RowsAnswer}
 use Rattle.corridor.specs.View.{view}
 
+-- the closing rows in numbers
+abbrev pub closing-numbers : Session → List ℤ
+closing-numbers s = numbers-of (map closing-row (view s .lines))
+
 -- what is handed back for a buffer of so many numbers
 unfoldable pub closed : Session → ℕ → RowsAnswer
 closed s size = cond (ltb size (6 * s .count)) (RowsAnswer.NoRoom (6 * s .count)) (RowsAnswer.Written (6 * s .count))
 
 -- what the buffer holds then
 unfoldable pub closed-into : Session → List ℤ → List ℤ
-closed-into s out = cond (ltb (length out) (6 * s .count)) out (written out 0 (numbers-of (map closing-row (view s .lines))))
+closed-into s out = cond (ltb (length out) (6 * s .count)) out (written out 0 (closing-numbers s))

@@ -6,11 +6,10 @@ use Prim.Native.Nat.{ℕ}
 use lib.ListN.{take}
 use Rattle.method.specs.Types.{State}
 use Rattle.method.specs.Table.{opened, opening}
-use Rattle.method.specs.Event.{read, Answer, accepted, refused}
+use Rattle.method.specs.Event.{read, Answer}
 use Rattle.method.specs.CalledFor.{Answers, reached}
-use Rattle.method.specs.Search.{answer}
+use Rattle.method.specs.Search.{answered, answer}
 use Rattle.method.specs.Program.{rows-of-all, events-of, numbers-of}
-use Rattle.corridor.specs.Names.{ShiftLine, EventAnswer}
 use Rattle.corridor.specs.declared.Session.{Session}
 use Rattle.corridor.specs.declared.Reply.{Reply}
 use Rattle.corridor.specs.View.{view, opened-session, Valid}
@@ -22,12 +21,8 @@ abbrev pub reply-to : Session → List ℕ → Reply
 reply-to s b = reply-of s (read b) (answer (view s) (read b))
 
 -- a reply's answer with its shift lines, as the method has it
-abbrev pub with-lines : EventAnswer → List ShiftLine → Answer
-with-lines EventAnswer.Accepted cs = accepted cs
-with-lines (EventAnswer.Refused why) cs = refused why
-
 abbrev pub answer-in : Reply → Answer
-answer-in r = with-lines (r .answer) (take (r .made) (r .shifts))
+answer-in r = answered (r .answer) (take (r .made) (r .shifts))
 
 -- each byte string is handed to the session that the one before it left
 unfoldable pub one-by-one : Session → List (List ℕ) → List Answer

@@ -21,7 +21,7 @@ use Rattle.corridor.proofs.Views.{view-put}
 use Rattle.corridor.proofs.Theorems.{valid-open}
 use Rattle.corridor.proofs.Joined.{one-buffer}
 use Rattle.session.specs.Reading.{table-end}
-use Rattle.session.specs.Chunks.{closing-numbers}
+use Rattle.corridor.specs.Closing.{closing-numbers}
 use Rattle.session.specs.Printing.{said-after, printed}
 use Rattle.session.proofs.HeaderAlone.{same-answer, is-refused}
 

@@ -1,12 +1,9 @@
 -- What the program knows of the events that it reads: a chunk, and all chunks so far.
 use mathlib.Core.Path.{_≡_}
-use mathlib.Core.List.{List, map}
+use mathlib.Core.List.{List}
 use Prim.Native.Nat.{ℕ}
-use lib.IntN.{ℤ}
 use lib.ListN.{length}
-use Rattle.method.specs.Program.{closing-row, numbers-of}
 use Rattle.corridor.specs.declared.Session.{Session}
-use Rattle.corridor.specs.View.{view}
 use Rattle.corridor.specs.Feeding.{told, left-by}
 use Rattle.session.specs.declared.events.Told.{Told}
 
@@ -17,7 +14,3 @@ answered s b = record { count = length (told s b); session = left-by s b }
 pub record Reached (first s : Session) : Type 0 where
   pub bytes : List ℕ
   pub left : s ≡ left-by first bytes
-
--- the closing rows in numbers
-abbrev pub closing-numbers : Session → List ℤ
-closing-numbers s = numbers-of (map closing-row (view s .lines))

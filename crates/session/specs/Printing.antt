@@ -10,7 +10,7 @@ use Rattle.method.specs.Program.{row-numbers}
 use Rattle.corridor.specs.declared.Session.{Session}
 use Rattle.corridor.specs.View.{opened-session}
 use Rattle.corridor.specs.Chunks.{told-in, left-in}
-use Rattle.session.specs.Chunks.{closing-numbers}
+use Rattle.corridor.specs.Closing.{closing-numbers}
 
 -- a refusal's row and nothing more, or the rows of each chunk in turn and then the closing rows
 abbrev pub said : TableAnswer → Session → List (List ℕ) → List ℤ

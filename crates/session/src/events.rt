@@ -6,7 +6,8 @@ ghost use lib.ListN.{length};
 ghost use Rattle.rows.specs.Buffer.{written};
 ghost use Rattle.corridor.specs.View.{Valid};
 ghost use Rattle.corridor.specs.Feeding.{room, told};
-ghost use Rattle.session.specs.Chunks.{answered, Reached, closing-numbers};
+ghost use Rattle.corridor.specs.Closing.{closing-numbers};
+ghost use Rattle.session.specs.Chunks.{answered, Reached};
 use corridor::RowsAnswer;
 use corridor::Session;
 

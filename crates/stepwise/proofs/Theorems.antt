@@ -1,4 +1,4 @@
--- What runs is right by rules 2 and 3, and is `feed`. Assumes nothing.
+-- What runs is right by rules 2 and 3. Assumes nothing.
 use mathlib.Core.Path.{_≡_, sym, ap, subst, _∙_}
 use mathlib.Core.List.{List}
 use Prim.Native.Nat.{ℕ}
@@ -19,13 +19,10 @@ use Rattle.corridor.specs.declared.RowsAnswer.{RowsAnswer}
 use Rattle.corridor.specs.declared.Fed.{Fed}
 use Rattle.corridor.specs.View.{view, opened-session}
 use Rattle.corridor.specs.Engine.{one-by-one}
-use Rattle.corridor.proofs.Theorems.{valid-open, one-answer}
+use Rattle.corridor.proofs.Theorems.{valid-open}
 use Rattle.corridor.proofs.Chunks.{fed-is, fed-into-is}
 use Rattle.corridor.proofs.Engine.{engine-is-right, feeding-is-the-same}
-use Rattle.stepwise.specs.Right.{StepwiseIsRight, SameAsFeed}
-
-pub same-as-feed : SameAsFeed
-same-as-feed s b out r q now then er en eq et = (one-answer er eq, one-answer en et)
+use Rattle.stepwise.specs.Right.{StepwiseIsRight}
 
 pub stepwise-is-right : StepwiseIsRight
 stepwise-is-right table o e b out enough r now er en =

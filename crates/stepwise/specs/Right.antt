@@ -38,9 +38,3 @@ StepwiseIsRight =
     → let s : Session = opened-session (opening table) .session in
     (r : Fed) (now : List ℤ) → r ≡ fed s (length out) b → now ≡ fed-into s out b
     → Rightly o (events-of b) (one-by-one s (events-of b)) out r now
-
--- What meets the contract of this crate's `feed` and what meets that of `Session::feed` are the same. [same-as-feed]
-abbrev pub SameAsFeed : Type 0
-SameAsFeed =
-    (s : Session) (b : List ℕ) (out : List ℤ) (r q : Fed) (now then : List ℤ) → r ≡ fed s (length out) b → now ≡ fed-into s out b
-    → q ≡ fed s (length out) b → then ≡ fed-into s out b → (r ≡ q) × (now ≡ then)

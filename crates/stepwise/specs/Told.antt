@@ -5,9 +5,9 @@ use lib.IntN.{ℤ}
 use lib.ListN.{take}
 use Rattle.method.specs.declared.EventAnswer.{EventAnswer}
 use Rattle.method.specs.declared.ShiftLine.{ShiftLine}
+use Rattle.method.specs.Search.{answered}
 use Rattle.method.specs.Program.{rows-of, numbers-of}
-use Rattle.corridor.specs.Engine.{with-lines}
 
 -- of an answer, its array of shift lines, and how many of them are made
 abbrev pub told-of : EventAnswer → List ShiftLine → ℕ → List ℤ
-told-of answer shifts made = numbers-of (rows-of (with-lines answer (take made shifts)))
+told-of answer shifts made = numbers-of (rows-of (answered answer (take made shifts)))
