@@ -15,7 +15,7 @@ use Rattle.numbers.proofs.Halves.{zarith, apart, abs-is, sub-is}
 use Rattle.numbers.proofs.Ranges.{fits, floor-within, within-add, within-sub, within-lit, within-mul, within-pos, within-more}
 use Rattle.numbers.proofs.Machine.{cast-back}
 use Rattle.method.specs.Bounds.{bound}
-use Rattle.method.specs.Opening.{normal-price, corridor-half}
+use Rattle.method.specs.Opening.{normal-price, corridor-half, corridor}
 use Rattle.method.specs.Ranges.{ContractIn}
 use Rattle.method.proofs.Opening.{normal-in}
 use Rattle.method.proofs.Rooms.{span-within}
@@ -108,22 +108,31 @@ half-within width t m s =
     floor-within 2_970_000_000 2_000_000 (lit< tt)
     (within-more (within-mul (within-pos (s .share)) (within-sub (drawn-within (s .drawn) Up) (drawn-within (s .drawn) Down))) (lit≤ tt))
 
+-- ---- the limits, from half of the corridor
 module _ (width : Millionths) (t : Terms) (m : Market) (s : Spanned width t m) (half : ℤ) (e : half ≡ corridor-half width t m) where
   half-in : Within 2_970_000_000 half
   half-in = rw e (half-within width t m s)
 
-  pub high-fits : SFits w64 (m .centre .0 +ℤ half)
-  high-fits = fits (within-add (s .drawn .centre) half-in) (lit< tt)
+  abbrev high-back : ℤ
+  high-back = toZ w64 (ofZ w64 (m .centre .0)) +ℤ toZ w64 (ofZ w64 half)
 
-  pub low-fits : SFits w64 (m .centre .0 -ℤ half)
-  low-fits = fits (within-sub (s .drawn .centre) half-in) (lit< tt)
+  abbrev low-back : ℤ
+  low-back = toZ w64 (ofZ w64 (m .centre .0)) -ℤ toZ w64 (ofZ w64 half)
 
-  pub centre-fits : SFits w64 (m .centre .0)
-  centre-fits = fits (s .drawn .centre) (lit< tt)
+  high-is : high-back ≡ m .centre .0 +ℤ half
+  high-is = rw (toZ-ofZ (fits (s .drawn .centre) (lit< tt)), toZ-ofZ (fits half-in (lit< tt)))
 
-  pub half-fits : SFits w64 half
-  half-fits = fits half-in (lit< tt)
+  low-is : low-back ≡ m .centre .0 -ℤ half
+  low-is = rw (toZ-ofZ (fits (s .drawn .centre) (lit< tt)), toZ-ofZ (fits half-in (lit< tt)))
 
-pub both-limits : {u x l y : ℤ} → u ≡ x → l ≡ y
-    → _≡_ {A = Limits} (record { upper = steps u; lower = steps l; frozen = false }) (record { upper = steps x; lower = steps y; frozen = false })
-both-limits e f = λ i. record { upper = steps (e i); lower = steps (f i); frozen = false }
+  pub high-fits : SFits w64 high-back
+  high-fits = rw high-is (fits (within-add (s .drawn .centre) half-in) (lit< tt))
+
+  pub low-fits : SFits w64 low-back
+  low-fits = rw low-is (fits (within-sub (s .drawn .centre) half-in) (lit< tt))
+
+  pub limits-are : _≡_ {A = Limits}
+      (record { upper = steps (toZ w64 (ofZ w64 high-back)); lower = steps (toZ w64 (ofZ w64 low-back)); frozen = false })
+      (corridor width t m)
+  unfolding corridor
+  limits-are = rw (toZ-ofZ high-fits, toZ-ofZ low-fits, high-is, low-is, e)

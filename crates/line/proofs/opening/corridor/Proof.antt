@@ -1,7 +1,6 @@
 -- `line::opening::corridor` meets its contract. Assumes nothing.
 use borrow.Author.Needs.{needs}
-use Rattle.method.specs.Opening.{corridor}
-use Rattle.line.proofs.Opened.{high-fits, low-fits, centre-fits, half-fits, both-limits}
+use Rattle.line.proofs.Opened.{high-fits, low-fits, limits-are}
 use Rattle.line.proofs.opening.corridor.Statement.{statement}
 use Rattle.line.proofs.opening.corridor.Tie as tie
 
@@ -10,28 +9,18 @@ corridor-half-requires c κs = search needs
 
 add-t6 : tie.Need-add-t6
 add-t6 c =
-    let a = centre-fits (c .before .before .before .before .before .before .args .width) (c .before .before .before .before .before .before .args .t) (c .before .before .before .before .before .before .args .m) (c .before .before .before .before .before .before .pre) (c .before .before .before .before .before .corridor-half .result .0) (c .before .before .before .before .before .corridor-half .ensures) in
-    let b = half-fits (c .before .before .before .before .before .before .args .width) (c .before .before .before .before .before .before .args .t) (c .before .before .before .before .before .before .args .m) (c .before .before .before .before .before .before .pre) (c .before .before .before .before .before .corridor-half .result .0) (c .before .before .before .before .before .corridor-half .ensures) in
-    let u = high-fits (c .before .before .before .before .before .before .args .width) (c .before .before .before .before .before .before .args .t) (c .before .before .before .before .before .before .args .m) (c .before .before .before .before .before .before .pre) (c .before .before .before .before .before .corridor-half .result .0) (c .before .before .before .before .before .corridor-half .ensures) in
-    let l = low-fits (c .before .before .before .before .before .before .args .width) (c .before .before .before .before .before .before .args .t) (c .before .before .before .before .before .before .args .m) (c .before .before .before .before .before .before .pre) (c .before .before .before .before .before .corridor-half .result .0) (c .before .before .before .before .before .corridor-half .ensures) in
-    search needs
+    let h = c .before .before .before .before .before in
+    high-fits (h .before .args .width) (h .before .args .t) (h .before .args .m) (h .before .pre) (h .corridor-half .result .0) (h .corridor-half .ensures)
 
 sub-t8 : tie.Need-sub-t8
 sub-t8 c =
-    let a = centre-fits (c .before .before .before .before .before .before .before .before .before .before .args .width) (c .before .before .before .before .before .before .before .before .before .before .args .t) (c .before .before .before .before .before .before .before .before .before .before .args .m) (c .before .before .before .before .before .before .before .before .before .before .pre) (c .before .before .before .before .before .before .before .before .before .corridor-half .result .0) (c .before .before .before .before .before .before .before .before .before .corridor-half .ensures) in
-    let b = half-fits (c .before .before .before .before .before .before .before .before .before .before .args .width) (c .before .before .before .before .before .before .before .before .before .before .args .t) (c .before .before .before .before .before .before .before .before .before .before .args .m) (c .before .before .before .before .before .before .before .before .before .before .pre) (c .before .before .before .before .before .before .before .before .before .corridor-half .result .0) (c .before .before .before .before .before .before .before .before .before .corridor-half .ensures) in
-    let u = high-fits (c .before .before .before .before .before .before .before .before .before .before .args .width) (c .before .before .before .before .before .before .before .before .before .before .args .t) (c .before .before .before .before .before .before .before .before .before .before .args .m) (c .before .before .before .before .before .before .before .before .before .before .pre) (c .before .before .before .before .before .before .before .before .before .corridor-half .result .0) (c .before .before .before .before .before .before .before .before .before .corridor-half .ensures) in
-    let l = low-fits (c .before .before .before .before .before .before .before .before .before .before .args .width) (c .before .before .before .before .before .before .before .before .before .before .args .t) (c .before .before .before .before .before .before .before .before .before .before .args .m) (c .before .before .before .before .before .before .before .before .before .before .pre) (c .before .before .before .before .before .before .before .before .before .corridor-half .result .0) (c .before .before .before .before .before .before .before .before .before .corridor-half .ensures) in
-    search needs
+    let h = c .before .before .before .before .before .before .before .before .before in
+    low-fits (h .before .args .width) (h .before .args .t) (h .before .args .m) (h .before .pre) (h .corridor-half .result .0) (h .corridor-half .ensures)
 
 returns : tie.Need-returns
-unfolding corridor
 returns c =
-    let a = centre-fits (c .before .before .before .before .before .before .before .before .before .before .args .width) (c .before .before .before .before .before .before .before .before .before .before .args .t) (c .before .before .before .before .before .before .before .before .before .before .args .m) (c .before .before .before .before .before .before .before .before .before .before .pre) (c .before .before .before .before .before .before .before .before .before .corridor-half .result .0) (c .before .before .before .before .before .before .before .before .before .corridor-half .ensures) in
-    let b = half-fits (c .before .before .before .before .before .before .before .before .before .before .args .width) (c .before .before .before .before .before .before .before .before .before .before .args .t) (c .before .before .before .before .before .before .before .before .before .before .args .m) (c .before .before .before .before .before .before .before .before .before .before .pre) (c .before .before .before .before .before .before .before .before .before .corridor-half .result .0) (c .before .before .before .before .before .before .before .before .before .corridor-half .ensures) in
-    let u = high-fits (c .before .before .before .before .before .before .before .before .before .before .args .width) (c .before .before .before .before .before .before .before .before .before .before .args .t) (c .before .before .before .before .before .before .before .before .before .before .args .m) (c .before .before .before .before .before .before .before .before .before .before .pre) (c .before .before .before .before .before .before .before .before .before .corridor-half .result .0) (c .before .before .before .before .before .before .before .before .before .corridor-half .ensures) in
-    let l = low-fits (c .before .before .before .before .before .before .before .before .before .before .args .width) (c .before .before .before .before .before .before .before .before .before .before .args .t) (c .before .before .before .before .before .before .before .before .before .before .args .m) (c .before .before .before .before .before .before .before .before .before .before .pre) (c .before .before .before .before .before .before .before .before .before .corridor-half .result .0) (c .before .before .before .before .before .before .before .before .before .corridor-half .ensures) in
-    rw (← c .before .before .before .before .before .before .before .before .before .corridor-half .ensures) (both-limits (search needs) (search needs))
+    let h = c .before .before .before .before .before .before .before .before .before in
+    limits-are (h .before .args .width) (h .before .args .t) (h .before .args .m) (h .before .pre) (h .corridor-half .result .0) (h .corridor-half .ensures)
 
 pub corridor-spec : {M : Type 1} → statement M
 corridor-spec = tie.close (tie.spec corridor-half-requires add-t6 sub-t8 returns)
