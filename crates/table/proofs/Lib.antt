@@ -1,4 +1,4 @@
-pub mod Records
+pub mod Ids
 pub mod Opening
 pub mod Lines
 pub mod Whole

@@ -28,10 +28,10 @@ use Rattle.method.specs.Table.{
 use Rattle.method.specs.Ranges.{KeysIn}
 use Rattle.method.proofs.Decided.{laid-in}
 use Rattle.method.proofs.Table.{header-in, keys-in}
-use Rattle.table.specs.Names.{Header, Key, TableReason, no-key}
-use Rattle.table.specs.Opened.{line-or-zero}
+use Rattle.records.specs.Keys.{no-key, line-or-zero}
+use Rattle.records.proofs.Reading.{keys-length}
+use Rattle.table.specs.Names.{Header, Key, TableReason}
 use Rattle.table.specs.Asks.{Lined}
-use Rattle.table.proofs.Records.{keys-length}
 
 -- a bad key stands on the line at which the search starts, or later
 first-line : (line before : ℕ) (keys : List Key) → 0 < line → line-or-zero (bad-key line before keys) ≡ 0 → bad-key line before keys ≡ none

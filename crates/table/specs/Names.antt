@@ -12,7 +12,3 @@ pub use Rattle.method.specs.declared.Line.{Line}
 pub use Rattle.method.specs.declared.LineAnswer.{LineAnswer}
 pub use Rattle.method.specs.declared.TableAnswer.{TableAnswer}
 pub use Rattle.method.specs.declared.TableReason.{TableReason}
-
--- what stands past the last key
-abbrev pub no-key : Key
-no-key = record { days = 0; rate = record { 0 = 0 } }

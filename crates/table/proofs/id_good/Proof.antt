@@ -6,7 +6,7 @@ use borrow.Author.Tests.{le-ltb}
 use lib.ListN.{length}
 use Rattle.numbers.proofs.Arrays.{full}
 use Rattle.method.specs.Opening.{id-good}
-use Rattle.table.proofs.Records.{Unmet, unmet-turn, unmet-met, unmet-all}
+use Rattle.table.proofs.Ids.{Unmet, unmet-turn, unmet-met, unmet-all}
 use Rattle.table.proofs.id_good.Statement.{statement}
 use Rattle.table.proofs.id_good.Tie as tie
 

@@ -1,8 +1,8 @@
--- `table::header` meets its contract. Assumes nothing.
+-- `records::header` meets its contract. Assumes nothing.
 use borrow.Author.Needs.{needs}
 use Rattle.method.specs.Table.{header-of}
-use Rattle.table.proofs.header.Statement.{statement}
-use Rattle.table.proofs.header.Tie as tie
+use Rattle.records.proofs.header.Statement.{statement}
+use Rattle.records.proofs.header.Tie as tie
 
 word-requires : tie.Need-word-requires
 word-requires c κs = search needs

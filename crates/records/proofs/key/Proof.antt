@@ -1,8 +1,8 @@
--- `table::key` meets its contract. Assumes nothing.
+-- `records::key` meets its contract. Assumes nothing.
 use borrow.Author.Needs.{needs}
 use Rattle.method.specs.Table.{key-at}
-use Rattle.table.proofs.key.Statement.{statement}
-use Rattle.table.proofs.key.Tie as tie
+use Rattle.records.proofs.key.Statement.{statement}
+use Rattle.records.proofs.key.Tie as tie
 
 word-requires : tie.Need-word-requires
 word-requires c κs = search needs

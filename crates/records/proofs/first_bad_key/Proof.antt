@@ -1,13 +1,13 @@
--- `table::first_bad_key` meets its contract. Assumes nothing.
+-- `records::first_bad_key` meets its contract. Assumes nothing.
 use mathlib.Core.Path.{_≡_, refl}
 use Prim.Native.Nat.{ℕ, _+_, _-_, _≤_}
 use native.Mathlib.Omega.{arith}
 use lib.ListN.{length}
 use Rattle.numbers.proofs.Arrays.{full}
 use Rattle.numbers.proofs.Tests.{failed, held}
-use Rattle.table.proofs.Records.{Tested, tested-bad, tested-turn, tested-all}
-use Rattle.table.proofs.first_bad_key.Statement.{statement}
-use Rattle.table.proofs.first_bad_key.Tie as tie
+use Rattle.records.proofs.Reading.{Tested, tested-bad, tested-turn, tested-all}
+use Rattle.records.proofs.first_bad_key.Statement.{statement}
+use Rattle.records.proofs.first_bad_key.Tie as tie
 
 abbrev Inv-loop : tie.InvT-loop
 Inv-loop n keys last₀ line₀ i₀ last line i = (i ≤ n) × (line ≡ i + 1) × Tested n keys last line i

@@ -1,4 +1,4 @@
--- `table::contract` meets its contract. Assumes nothing.
+-- `records::contract` meets its contract. Assumes nothing.
 use borrow.Author.Needs.{needs}
 use mathlib.Core.Path.{ap, _∙_}
 use lib.IntN.{pos}
@@ -6,9 +6,9 @@ use mir.Syntax.{w64}
 use mir.Facts.{toZ-ofZ}
 use Rattle.numbers.proofs.Machine.{cast-back}
 use Rattle.method.specs.Table.{contract-at}
-use Rattle.table.proofs.Records.{contract-is}
-use Rattle.table.proofs.contract.Statement.{statement}
-use Rattle.table.proofs.contract.Tie as tie
+use Rattle.records.proofs.Reading.{contract-is}
+use Rattle.records.proofs.contract.Statement.{statement}
+use Rattle.records.proofs.contract.Tie as tie
 
 signed-word-requires : tie.Need-signed-word-requires
 signed-word-requires c κs = search needs

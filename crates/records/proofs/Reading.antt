@@ -1,22 +1,18 @@
--- The loops over a table's keys and lines: what holds at their head. Assumes nothing.
-use mathlib.Core.Path.{_≡_, refl, sym, ap, _∙_, subst}
-use mathlib.Core.Bool.{Bool, true, false, cond, not, _&&_, _||_}
+-- The loops over a table's keys: what holds at their head. And a contract, field by field. Assumes nothing.
+use mathlib.Core.Path.{_≡_, refl, sym, ap, _∙_}
+use mathlib.Core.Bool.{true, false}
 use mathlib.Core.List.{List, [], _∷_, _++_}
-use mathlib.Core.Option.{Option, none, some}
+use mathlib.Core.Option.{none, some}
 use Prim.Native.Nat.{ℕ, zero, suc, _+_, _*_, _≤_, _<_}
 use native.Mathlib.Numerals.{add-one}
 use native.Mathlib.Omega.{arith}
-use borrow.Author.Tests.{lt-ltb, eq-eqb, ne-eqb}
-use lib.Dec.{ltb, eqb}
 use lib.IntN.{ℤ}
 use lib.ListN.{length, getD, set, take, drop}
 use Rattle.numbers.specs.Arrays.{padded}
 use Rattle.numbers.proofs.Arrays.{padded-set, passing, all-passed}
-use Rattle.method.specs.Opening.{known, id-good}
-use Rattle.method.specs.Table.{key-at, keys-at, contract-at, contracts-at, key-good, bad-key}
-use Rattle.method.specs.Types.{blank}
-use Rattle.table.specs.Names.{Key, Contract, Line, no-key}
-use Rattle.table.specs.Opened.{line-or-zero}
+use Rattle.method.specs.Table.{key-at, keys-at, key-good, bad-key}
+use Rattle.records.specs.Names.{Key, Contract}
+use Rattle.records.specs.Keys.{no-key, line-or-zero}
 
 -- ---- the keys are read one after another
 pub keys-length : (b : List ℕ) (at n : ℕ) → length (keys-at b at n) ≡ n
@@ -62,35 +58,6 @@ module _ (n : ℕ) (keys : List Key) (last line i : ℕ) (t : Tested n keys last
     where
       ended : bad-key line last (drop i (take n keys)) ≡ none
       ended = unfold bad-key in rw (e, all-passed n keys h)
-
--- ---- the lines are passed one after another
-abbrev pub Unmet : ℕ → List Line → ℕ → ℕ → Type 0
-Unmet n lines id i = known id (drop i (take n lines)) ≡ known id (take n lines)
-
-module _ (n : ℕ) (lines : List Line) (id i : ℕ) (u : Unmet n lines id i) (h : n ≤ length lines) where
-  pub unmet-turn : i < n → (getD lines i blank .terms .id ≡ id → ⊥) → Unmet n lines id (i + 1)
-  unmet-turn g e = rw add-one (sym passed ∙ u)
-    where
-      passed : known id (drop i (take n lines)) ≡ known id (drop (suc i) (take n lines))
-      passed = unfold known in rw (passing i n lines blank g h, ne-eqb (getD lines i blank .terms .id) id e)
-
-  pub unmet-met : i < n → getD lines i blank .terms .id ≡ id → false ≡ id-good (take n lines) id
-  unfolding id-good
-  unmet-met g e = rw (sym u ∙ met) (never (ltb 0 id))
-    where
-      met : known id (drop i (take n lines)) ≡ true
-      met = unfold known in rw (passing i n lines blank g h, eq-eqb (getD lines i blank .terms .id) id e)
-
-      never : (t : Bool) → false ≡ (t && false)
-      never true = refl
-      never false = refl
-
-  pub unmet-all : i ≡ n → 0 < id → true ≡ id-good (take n lines) id
-  unfolding id-good
-  unmet-all e g = rw (sym u ∙ ended, lt-ltb 0 id g)
-    where
-      ended : known id (drop i (take n lines)) ≡ false
-      ended = unfold known in rw (e, all-passed n lines h)
 
 -- ---- a contract, field by field
 abbrev fields : ℤ → ℤ → ℤ → ℕ → ℕ → ℕ → ℕ → ℕ → ℕ → ℕ → Contract

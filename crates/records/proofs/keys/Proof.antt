@@ -1,14 +1,14 @@
--- `table::keys` meets its contract. Assumes nothing.
+-- `records::keys` meets its contract. Assumes nothing.
 use mathlib.Core.Path.{_≡_, refl, ap, _∙_}
 use Prim.Native.Nat.{ℕ, _-_, _≤_}
 use native.Mathlib.Omega.{arith}
 use denote.Ref.{now}
 use Rattle.numbers.specs.Arrays.{padded}
 use Rattle.method.specs.Table.{keys-at}
-use Rattle.table.specs.Names.{no-key}
-use Rattle.table.proofs.Records.{keys-read}
-use Rattle.table.proofs.keys.Statement.{statement}
-use Rattle.table.proofs.keys.Tie as tie
+use Rattle.records.specs.Keys.{no-key}
+use Rattle.records.proofs.Reading.{keys-read}
+use Rattle.records.proofs.keys.Statement.{statement}
+use Rattle.records.proofs.keys.Tie as tie
 
 abbrev Inv-loop : tie.InvT-loop
 Inv-loop bytes n keys₀ i₀ keys i = (i ≤ n) × (keys ≡ padded 16 no-key (keys-at bytes 40 i))
