@@ -1,14 +1,14 @@
 -- The loop over the contract lines: what holds while the first i of them are opened. Assumes nothing.
-use mathlib.Core.Path.{_≡_, refl, sym, ap, _∙_, subst}
+use mathlib.Core.Path.{_≡_, refl, sym, ap, _∙_}
 use mathlib.Core.List.{List, [], _∷_, _++_}
-use Prim.Native.Nat.{ℕ, zero, suc, _+_, _-_, _*_, _≤_, _<_}
+use Prim.Native.Nat.{ℕ, suc, _+_, _-_, _*_, _≤_, _<_}
 use native.Mathlib.Numerals.{add-one}
 use native.Mathlib.Omega.{arith}
 use lib.ListN.{length, set, take, length-append}
 use Rattle.numbers.specs.Arrays.{padded}
 use Rattle.numbers.proofs.Arrays.{padded-set, padded-take}
 use Rattle.method.specs.Opening.{open-line}
-use Rattle.method.specs.Table.{contract-at, contracts-at, Opening, opened, refused, opening-state, open-lines}
+use Rattle.method.specs.Table.{contract-at, contracts-at, opened, refused, opening-state, open-lines}
 use Rattle.method.specs.Types.{blank}
 use Rattle.table.specs.Names.{Header, Key, Contract, Line, LineAnswer, TableAnswer, TableReason}
 use Rattle.table.specs.declared.Opened.{Opened}

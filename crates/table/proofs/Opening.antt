@@ -2,10 +2,7 @@
 use mathlib.Core.Path.{_≡_, ap, _∙_}
 use mathlib.Core.List.{List}
 use Prim.Native.Nat.{ℕ, _≤_}
-use native.Mathlib.Omega.{arith}
 use lib.Dec.{lit≤}
-use lib.ListN.{take}
-use Rattle.numbers.specs.Ranges.{Between}
 use Rattle.numbers.proofs.Ranges.{within-more}
 use Rattle.method.specs.Growth.{rate-at, exponent, most-exponent}
 use Rattle.method.specs.Opening.{exponent-of, terms-of, market-of}

@@ -1,31 +1,15 @@
 -- The whole table: each way in which `open` ends is the method's answer. Assumes nothing.
-use mathlib.Core.Path.{_≡_, refl, sym, ap, _∙_, subst}
+use mathlib.Core.Path.{_≡_, refl, sym, ap, _∙_}
 use mathlib.Core.Bool.{Bool, true, false, cond}
 use mathlib.Core.List.{List, [], _∷_}
 use mathlib.Core.Option.{Option, none, some}
-use Prim.Native.Nat.{ℕ, zero, suc, _≤_, _<_}
+use Prim.Native.Nat.{ℕ, suc, _≤_, _<_}
 use native.Mathlib.Omega.{arith}
 use borrow.Author.Tests.{le-leb, lt-leb, eq-eqb, ne-eqb}
 use lib.ListN.{length, take}
 use Rattle.numbers.specs.Arrays.{padded}
 use Rattle.numbers.proofs.Arrays.{padded-take}
-use Rattle.method.specs.Table.{
-  header-of,
-  keys-at,
-  contracts-start,
-  contracts-at,
-  header-good,
-  laid-out,
-  key-good,
-  bad-key,
-  Opening,
-  refused,
-  open-lines,
-  if-keys-good,
-  open-records,
-  opening,
-}
-use Rattle.method.specs.Ranges.{KeysIn}
+use Rattle.method.specs.Table.{header-of, keys-at, contracts-start, contracts-at, header-good, laid-out, key-good, bad-key, refused, open-lines, if-keys-good, open-records, opening}
 use Rattle.method.proofs.Decided.{laid-in}
 use Rattle.method.proofs.Table.{header-in, keys-in}
 use Rattle.records.specs.Keys.{no-key, line-or-zero}

@@ -1,4 +1,4 @@
--- `table::table_length` meets its contract. Assumes nothing.
+-- `records::table_length` meets its contract. Assumes nothing.
 use borrow.Author.Needs.{needs}
 use native.Mathlib.Omega.{arith}
 use Rattle.records.proofs.table_length.Statement.{statement}

@@ -1,11 +1,10 @@
 -- `table::open_lines` meets its contract. Assumes nothing.
 use borrow.Author.Needs.{needs}
-use mathlib.Core.Path.{_≡_, sym, ap, _∙_}
-use Prim.Native.Nat.{ℕ, _+_, _-_, _*_}
+use mathlib.Core.Path.{_∙_}
+use Prim.Native.Nat.{_+_, _-_, _*_}
 use native.Mathlib.Omega.{arith}
-use lib.ListN.{length, take}
+use lib.ListN.{take}
 use denote.Ref.{now}
-use Rattle.table.specs.Opened.{opened-as}
 use Rattle.table.proofs.Lines.{Opening-lines, lines-start, lines-refused, lines-turn, lines-all}
 use Rattle.table.proofs.open_lines.Statement.{statement}
 use Rattle.table.proofs.open_lines.Tie as tie
