@@ -1,0 +1,12 @@
+-- `host::packed::mark` meets its contract. Assumes nothing.
+use borrow.Author.Needs.{needs}
+use Rattle.host.specs.Packed.{mark-in}
+use Rattle.host.proofs.packed.mark.Statement.{statement}
+use Rattle.host.proofs.packed.mark.Tie as tie
+
+returns : tie.Need-returns
+unfolding mark-in
+returns c = search needs
+
+pub mark-spec : {M : Type 1} → statement M
+mark-spec = tie.close (tie.spec returns)

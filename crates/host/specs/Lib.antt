@@ -1,0 +1,3 @@
+pub mod Names
+pub mod Packed
+pub mod Told

@@ -1,0 +1,113 @@
+/*
+ * sundewcup_host.h: the proved price-corridor engine inside a process, one event after another.
+ *
+ * The session lies in memory that you own: a sundewcup_session, on the stack, in a static or from malloc. Nothing is kept
+ * anywhere else, so two sessions do not know of each other, and a copy of one (memcpy, or a file) is a session that goes on
+ * from there by itself, in another process too. `sundewcup_open` fills it; until then it may hold anything.
+ *
+ * What you must not do, since nothing can be promised then: change the numbers in it; hand a session to any function but
+ * `sundewcup_open` before `sundewcup_open` has filled it; hand one to two threads at once, unless all of them only ask
+ * (`const`); hand over a null pointer, also where a length is 0; let two arguments overlap.
+ *
+ * Answers are numbers: 0 where nothing is refused, or the number of the refusal, the same everywhere:
+ *
+ *    1  the table's length is not what its header says      8  a contract's half-move is 0
+ *    2  the table's edition is not known                     9  a contract's limits lie beyond its interest bounds
+ *    3  a field of the table's header is out of range       10  the event is after session end
+ *    4  a growth key is out of range or out of order        11  the event is before the clock, the time of the last event
+ *    5  a field of a contract is out of range               12  the bytes are no event
+ *    6  a contract's id is 0 or used on an earlier line     13  no contract has this id
+ *    7  a contract's exponent is beyond its cap             14  the quote's bid is above its ask
+ *
+ * A refused event, 10 to 14, changes nothing: every number of the session is as it was. Prices are in whole minimum steps,
+ * times in seconds from session start. A question is answered as of the clock: whoever asks in second t sends a tick at t
+ * first, since a hold may have fallen due meanwhile.
+ */
+#ifndef SUNDEWCUP_HOST_H
+#define SUNDEWCUP_HOST_H
+
+#include <stddef.h>
+#include <stdint.h>
+
+#ifdef __cplusplus
+extern "C" {
+#endif
+
+/* How many numbers a session takes: 33 rows of 21. `sundewcup_session_numbers` says the library's own count. */
+#define SUNDEWCUP_SESSION_NUMBERS 693
+/* How many numbers a row of an answer has. */
+#define SUNDEWCUP_ROW_NUMBERS 6
+/* The most shifts of a session, and so of one event; and the numbers of their rows. */
+#define SUNDEWCUP_MOST_SHIFTS 16
+#define SUNDEWCUP_SHIFT_NUMBERS 96
+/* The most contracts of a session, and the numbers of their closing rows. */
+#define SUNDEWCUP_MOST_CONTRACTS 32
+#define SUNDEWCUP_CLOSING_NUMBERS 192
+/* The room that `sundewcup_feed` asks for, in numbers, for so many bytes of events. */
+#define SUNDEWCUP_FEED_NUMBERS(bytes) (6 * (((bytes) + 19) / 20 + 16))
+
+/* A session. The numbers are for the library alone. */
+typedef struct {
+    uint64_t opaque[SUNDEWCUP_SESSION_NUMBERS];
+} sundewcup_session;
+
+/* What `sundewcup_place` answers of a price; any other answer is a refusal. */
+enum { SUNDEWCUP_BELOW = -1, SUNDEWCUP_INSIDE = 0, SUNDEWCUP_ABOVE = 1 };
+
+/*
+ * Opens a session from the bytes of a morning table, of any length and sound or not. The result is 0, or the number of the
+ * refusal, 1 to 9; *line is then the line of the table at fault, counted from 1, or 0 for the header, and 0 where nothing is
+ * refused. Beside a refusal the session is one that knows no contract, so it may be handed to every function.
+ */
+int64_t sundewcup_open(sundewcup_session *session, const uint8_t *table, size_t table_length, int64_t *line);
+
+/*
+ * One event: 20 bytes (any other bytes are refused with 12). The result is 0, or the number of the refusal, 10 to 14.
+ * *made is how many shifts it made, 0 to 16; each is a row of six numbers in `shifts`, in the order in which they were made:
+ *
+ *   1  second  side  id  0  0      the second at which its hold fell due, its side (0 up, 1 down), the contract that called
+ *
+ * The numbers behind the last row are as they were.
+ */
+int64_t sundewcup_event(sundewcup_session *session, const uint8_t *event, size_t event_length,
+                        int64_t shifts[SUNDEWCUP_SHIFT_NUMBERS], size_t *made);
+
+/*
+ * A buffer of events, 20 bytes each (a last one that is cut short is refused with 12), as if each were handed to
+ * `sundewcup_event` in turn, but faster. The answers are rows of six numbers: a shift as above, or
+ *
+ *   2  number  0  0  0  0          an event that was refused, with its number, 10 to 14
+ *
+ * The result is how many numbers were written. Where `out_length` is less than SUNDEWCUP_FEED_NUMBERS(events_length), that
+ * room is the result, so that it is greater than `out_length`; nothing is written, and the session is what it was.
+ */
+size_t sundewcup_feed(sundewcup_session *session, const uint8_t *events, size_t events_length, int64_t *out,
+                      size_t out_length);
+
+/*
+ * The limits of a contract: out[0] the lower and out[1] the upper one, out[2] 1 where the lower one is frozen at one step,
+ * else 0. The result is 0, or 13, and then `out` is as it was.
+ */
+int64_t sundewcup_limits(const sundewcup_session *session, uint32_t id, int64_t out[3]);
+
+/* Where an order price lies: SUNDEWCUP_BELOW, SUNDEWCUP_INSIDE (both limits count as inside), SUNDEWCUP_ABOVE; or 13. */
+int64_t sundewcup_place(const sundewcup_session *session, uint32_t id, int64_t price);
+
+/*
+ * What stands at the clock, a row for each contract in the table's order:
+ *
+ *   4  id  lower  upper  lower bound  upper bound     its limits, and its interest bounds
+ *
+ * The result is how many numbers were written. Where `out_length` is less than six a contract, that room is the result, and
+ * nothing is written; SUNDEWCUP_CLOSING_NUMBERS is always enough. The session may go on after it.
+ */
+size_t sundewcup_close(const sundewcup_session *session, int64_t *out, size_t out_length);
+
+/* How many numbers of 64 bits the library takes a session to be: SUNDEWCUP_SESSION_NUMBERS. */
+size_t sundewcup_session_numbers(void);
+
+#ifdef __cplusplus
+}
+#endif
+
+#endif
