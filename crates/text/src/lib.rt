@@ -6,7 +6,7 @@ ghost use lib.IntN.{natAbs};
 ghost use lib.ListN.{length};
 
 // How far a number is from 0. `!n` is -(n + 1), and no number is too small for it.
-fn magnitude(n: i64) -> u64
+pub fn magnitude(n: i64) -> u64
     ensures { λ r. ⌜ r ≡ natAbs n ⌝ }
 {
     if n < 0 {
