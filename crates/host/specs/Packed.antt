@@ -1,6 +1,6 @@
 -- A session in memory that the host owns: 33 rows of 21 numbers. A line stands in each of the first 32 rows, and in the last one what the
 -- session has beside its lines. Any numbers read as some session, so nothing is asked of memory that `open` is to fill.
-use mathlib.Core.Bool.{Bool, true, false, cond}
+use mathlib.Core.Bool.{Bool, cond}
 use mathlib.Core.List.{List, [], map}
 use Prim.Native.Nat.{ℕ, _/_, _%_}
 use lib.Dec.{eqb, ltb}

@@ -1,7 +1,7 @@
 -- What a host is told, in numbers, of a session in its memory, and what stands in that memory then.
 use mathlib.Core.Path.{_≡_}
 use mathlib.Core.Bool.{cond}
-use mathlib.Core.List.{List, [], _∷_, map}
+use mathlib.Core.List.{List, map}
 use Prim.Native.Nat.{ℕ}
 use lib.Dec.{eqb}
 use lib.IntN.{ℤ, pos, negsuc}
@@ -14,7 +14,6 @@ use Rattle.method.specs.Program.{numbers-of}
 use Rattle.method.specs.declared.Row.the-variants as Row
 use Rattle.corridor.specs.declared.Reply.{Reply}
 use Rattle.corridor.specs.declared.RowsAnswer.{RowsAnswer}
-use Rattle.corridor.specs.View.{view}
 use Rattle.corridor.specs.Engine.{reply-to}
 use Rattle.host.specs.Names.{TableAnswer, PlaceAnswer, Session}
 use Rattle.host.specs.declared.questions.Sought.{Sought}

@@ -5,7 +5,7 @@ use Rattle.corridor.specs.declared.Opened.{Opened}
 use Rattle.corridor.specs.View.{opened-session}
 use Rattle.host.proofs.Replies.{table-told, table-opened}
 use borrow.Author.Needs.{needs}
-use mathlib.Core.Path.{_≡_, ap, subst, sym, _∙_}
+use mathlib.Core.Path.{ap, sym, _∙_}
 use Rattle.host.proofs.sundewcup_open.Statement.{statement}
 use Rattle.host.proofs.sundewcup_open.Tie as tie
 

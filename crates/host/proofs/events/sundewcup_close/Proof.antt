@@ -4,7 +4,7 @@ use Rattle.host.specs.Names.{Session}
 use denote.Ref.{now}
 use lib.ListN.{length}
 use borrow.Author.Needs.{needs}
-use mathlib.Core.Path.{_≡_, ap, subst, sym, _∙_}
+use mathlib.Core.Path.{ap, subst, sym, _∙_}
 use Rattle.corridor.specs.View.{Valid}
 use Rattle.host.specs.Told.{number-in}
 use Rattle.host.proofs.events.sundewcup_close.Statement.{statement}

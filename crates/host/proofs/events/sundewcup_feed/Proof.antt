@@ -2,7 +2,7 @@
 use denote.Ref.{now}
 use lib.ListN.{length}
 use borrow.Author.Needs.{needs}
-use mathlib.Core.Path.{_≡_, ap, subst, sym, _∙_}
+use mathlib.Core.Path.{ap, subst, sym, _∙_}
 use Rattle.corridor.specs.declared.Fed.{Fed}
 use Rattle.corridor.specs.View.{Valid}
 use Rattle.corridor.specs.Feeding.{fed, fed-into}

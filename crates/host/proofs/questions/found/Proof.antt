@@ -5,12 +5,11 @@ use lib.ListN.{getD}
 use Rattle.method.specs.Types.{blank}
 use Rattle.host.specs.Names.{Line}
 use borrow.Author.Needs.{needs}
-use mathlib.Core.Path.{_≡_, ap, subst, sym, _∙_}
-use Prim.Native.Nat.{_-_, _≤_}
+use mathlib.Core.Path.{_≡_, ap, sym, _∙_}
+use Prim.Native.Nat.{_-_}
 use native.Mathlib.Omega.{arith}
 use denote.Ref.{now}
-use Rattle.corridor.specs.View.{view}
-use Rattle.corridor.proofs.Named.{Unnamed, unnamed-start, walk-met, walk-turn, walk-all}
+use Rattle.corridor.proofs.Named.{Walk, walk-start, walk-met, walk-turn, walk-all}
 use Rattle.host.specs.declared.questions.Sought.{Sought}
 use Rattle.host.specs.Packed.{session-in}
 use Rattle.host.proofs.Asking.{count-is, line-at, sought-met, sought-unmet}
@@ -18,7 +17,7 @@ use Rattle.host.proofs.questions.found.Statement.{statement}
 use Rattle.host.proofs.questions.found.Tie as tie
 
 abbrev Inv-loop : tie.InvT-loop
-Inv-loop session id n i₀ i = (i ≤ session-in session .count) × Unnamed id (view (session-in session) .lines) i
+Inv-loop session id n i₀ i = Walk (session-in session) id i
 
 abbrev μ-loop : tie.MeasureT-loop
 μ-loop session id n i₀ i = session-in session .count - i
@@ -30,7 +29,7 @@ array-read-n : tie.Need-array-read-n Inv-loop μ-loop
 array-read-n c = search needs
 
 loop-holds : tie.Need-loop-holds Inv-loop μ-loop
-loop-holds c = (omega arith, unnamed-start (c .before .args .id) _)
+loop-holds c = walk-start _ (c .before .args .id)
 
 mul-row : tie.Need-mul-row Inv-loop μ-loop
 mul-row c = search needs
@@ -60,7 +59,7 @@ returns c =
     let v = c .before .before .before .before .before .before .before .pre in
     let id = c .before .before .before .before .before .before .before .args .id in
     let i = c .before .before .before .before .before .loop in
-    ap Sought.At (read-line l) ∙ sought-met (session-in (now (c .before .before .before .before .before .before .before .args .session))) id (i .i) v (walk-met (session-in (now (c .before .before .before .before .before .before .before .args .session))) id (i .i) v (i .inv .1) (below l) (sym (ap (λ (z : Line). z .terms .id) (read-line l)) ∙ c .if1 .taken))
+    ap Sought.At (read-line l) ∙ sought-met (session-in (now (c .before .before .before .before .before .before .before .args .session))) id (i .i) v (walk-met (session-in (now (c .before .before .before .before .before .before .before .args .session))) id (i .i) v (i .inv) (below l) (sym (ap (λ (z : Line). z .terms .id) (read-line l)) ∙ c .if1 .taken))
 
 add-i : tie.Need-add-i Inv-loop μ-loop
 add-i c = search needs
@@ -74,14 +73,14 @@ loop-again c =
     let v = c .before .before .before .before .before .before .before .pre in
     let id = c .before .before .before .before .before .before .before .args .id in
     let i = c .before .before .before .before .before .loop in
-    (omega (arith, below l), walk-turn (session-in (now (c .before .before .before .before .before .before .before .args .session))) id (i .i) v (i .inv .1) (below l) (λ q. c .if1 .left (ap (λ (z : Line). z .terms .id) (read-line l) ∙ q)))
+    walk-turn (session-in (now (c .before .before .before .before .before .before .before .args .session))) id (i .i) v (i .inv) (below l) (λ q. c .if1 .left (ap (λ (z : Line). z .terms .id) (read-line l) ∙ q))
 
 returns-2 : tie.Need-returns-2 Inv-loop μ-loop
 returns-2 c =
     let v = c .before .before .before .pre in
     let id = c .before .before .before .args .id in
     let i = c .before .loop in
-    sought-unmet (session-in (now (c .before .before .before .args .session))) id (walk-all (session-in (now (c .before .before .before .args .session))) id (i .i) v (i .inv .1) (omega (arith, count-is (now (c .before .before .before .args .session)), c .loop-test .left, i .inv .0)))
+    sought-unmet (session-in (now (c .before .before .before .args .session))) id (walk-all (session-in (now (c .before .before .before .args .session))) id (i .i) v (i .inv) (omega (arith, count-is (now (c .before .before .before .args .session)), c .loop-test .left)))
 
 pub found-spec : {M : Type 1} → statement M
 found-spec =

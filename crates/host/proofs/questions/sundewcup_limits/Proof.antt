@@ -1,6 +1,6 @@
 -- `host::questions::sundewcup_limits` meets its contract. Assumes nothing.
 use borrow.Author.Needs.{needs}
-use mathlib.Core.Path.{sym, ap, _∙_}
+use mathlib.Core.Path.{sym, _∙_}
 use denote.Ref.{now}
 use Rattle.method.specs.Event.{limits}
 use Rattle.corridor.specs.View.{view}

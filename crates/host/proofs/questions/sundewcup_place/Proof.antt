@@ -4,7 +4,7 @@ use mathlib.Core.Path.{sym, ap, _∙_}
 use denote.Ref.{now}
 use mir.Facts.{toZ-ofZ}
 use lib.IntN.{ℤ}
-use Rattle.method.specs.Types.{Steps, steps}
+use Rattle.method.specs.Types.{steps}
 use Rattle.method.specs.Event.{placed}
 use Rattle.corridor.specs.View.{view}
 use Rattle.host.specs.declared.questions.Sought.{Sought}
