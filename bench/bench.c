@@ -1,12 +1,14 @@
 /*
- * bench.c: times the proved engine, linked as a library, and the second engine on the same events in memory.
- * Both write the same rows into the same kind of buffer, in turn, and the rows are compared.
+ * bench.c: times the proved engine, linked as a library, and the second engine on the same events in memory. The proved
+ * engine is timed twice: a whole session in one call, and as a host has it, one event a call. All write the same rows into
+ * the same kind of buffer, in turn, and the rows are compared.
  */
 #include "median.h"
 #include "rows.h"
 #include "sample.h"
 
 #include "sundewcup.h"
+#include "sundewcup_host.h"
 
 #include <stdio.h>
 #include <stdlib.h>
@@ -22,6 +24,26 @@ static size_t library_run(const Input *input, int64_t *out, size_t out_length)
     return sundewcup_run(input->table, input->table_length, input->events, input->events_length, out, out_length);
 }
 
+static size_t host_run(const Input *input, int64_t *out, size_t out_length)
+{
+    static sundewcup_session session;
+    int64_t line;
+    size_t count = 0;
+    if (sundewcup_open(&session, input->table, input->table_length, &line) != 0) {
+        return 0;
+    }
+    for (size_t at = 0; at < input->events_length; at += EVENT_BYTES) {
+        size_t made;
+        int64_t refused = sundewcup_event(&session, input->events + at, EVENT_BYTES, out + count, &made);
+        if (refused != 0) {
+            memcpy(out + count, (const int64_t[ROW_NUMBERS]){ROW_REFUSED_EVENT, refused}, ROW_NUMBERS * sizeof *out);
+            made = 1;
+        }
+        count += made * ROW_NUMBERS;
+    }
+    return count + sundewcup_close(&session, out + count, out_length - count);
+}
+
 /* Processor time, so that other work of the machine counts as little as it can. */
 static double nanoseconds_an_event(Engine *engine, const Input *input, int64_t *out, size_t *count)
 {
@@ -30,10 +52,19 @@ static double nanoseconds_an_event(Engine *engine, const Input *input, int64_t *
     return (double)(clock() - start) * (1e9 / CLOCKS_PER_SEC) / EVENTS;
 }
 
+static void hold_together(const int64_t *library_out, size_t library_count, const int64_t *second_out, size_t second_count)
+{
+    if (library_count != second_count || memcmp(library_out, second_out, second_count * sizeof(int64_t)) != 0) {
+        puts("the rows differ");
+        exit(EXIT_FAILURE);
+    }
+}
+
 static void bench(uint32_t contract_count, uint8_t *events, int64_t *library_out, int64_t *second_out)
 {
     uint8_t table[LONGEST_TABLE];
     double library_times[RUNS];
+    double host_times[RUNS];
     double second_times[RUNS];
     sample_events(events, contract_count);
     Input input = {table, sample_table(table, contract_count), events, (size_t)EVENTS * EVENT_BYTES};
@@ -42,17 +73,17 @@ static void bench(uint32_t contract_count, uint8_t *events, int64_t *library_out
         size_t second_count;
         library_times[run] = nanoseconds_an_event(library_run, &input, library_out, &library_count);
         second_times[run] = nanoseconds_an_event(rows_run, &input, second_out, &second_count);
-        if (library_count != second_count || memcmp(library_out, second_out, second_count * sizeof(int64_t)) != 0) {
-            puts("the rows differ");
-            exit(EXIT_FAILURE);
-        }
+        hold_together(library_out, library_count, second_out, second_count);
+        host_times[run] = nanoseconds_an_event(host_run, &input, library_out, &library_count);
+        hold_together(library_out, library_count, second_out, second_count);
         if (run == 0) {
             printf("%9u %9zu", contract_count, second_count / ROW_NUMBERS - contract_count);
         }
     }
     double library = median(library_times);
     double second = median(second_times);
-    printf(" %11.1f %11.1f %9.2f\n", library, second, library / second);
+    double host = median(host_times);
+    printf(" %11.1f %11.1f %9.2f %11.1f %9.2f\n", library, second, library / second, host, host / second);
 }
 
 int main(void)
@@ -66,7 +97,7 @@ int main(void)
         return EXIT_FAILURE;
     }
     printf("%d events, median of %d, nanoseconds an event\n", EVENTS, RUNS);
-    printf("%9s %9s %11s %11s %9s\n", "contracts", "shifts", "library", "second", "ratio");
+    printf("%9s %9s %11s %11s %9s %11s %9s\n", "contracts", "shifts", "library", "second", "ratio", "by event", "ratio");
     for (size_t i = 0; i < sizeof contract_counts / sizeof contract_counts[0]; i++) {
         bench(contract_counts[i], events, library_out, second_out);
     }

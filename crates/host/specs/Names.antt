@@ -1,4 +1,6 @@
 -- The data of `numbers`, `method` and `corridor` that this crate names.
+pub use Rattle.numbers.specs.declared.Millionths.{Millionths}
+pub use Rattle.numbers.specs.declared.Seconds.{Seconds}
 pub use Rattle.method.specs.declared.Factors.{Factors}
 pub use Rattle.method.specs.declared.Terms.{Terms}
 pub use Rattle.method.specs.declared.Market.{Market}

@@ -2,22 +2,37 @@
 
 ghost use mathlib.Core.Path.{_≡_};
 ghost use lib.IntN.{pos};
-ghost use lib.ListN.{length};
+ghost use Prim.Native.Nat.{_<_};
+ghost use lib.ListN.{length, getD};
+ghost use Rattle.method.specs.Types.{blank};
+ghost use Rattle.method.specs.Opening.{ids};
+ghost use Rattle.method.specs.Event.{with-book, quoted-line};
+ghost use Rattle.method.specs.Search.{earliest};
 ghost use Rattle.method.specs.Refusals.{event-said};
+ghost use Rattle.method.specs.declared.Found.the-variants.{Nothing};
+ghost use Rattle.holds.specs.Asks.{Pressed};
+ghost use Rattle.verdict.specs.Screened.{screened};
 ghost use Rattle.rows.specs.Buffer.{written};
-ghost use Rattle.corridor.specs.View.{Valid};
+ghost use Rattle.corridor.specs.View.{view, Valid};
 ghost use Rattle.corridor.specs.Feeding.{fed, fed-into};
 ghost use Rattle.corridor.specs.Closing.{closed, closed-into};
-ghost use Rattle.host.specs.Packed.{session-in};
-ghost use Rattle.host.specs.Told.{reply-in, shift-rows, Leaves, number-in};
+ghost use Rattle.host.specs.Packed.{at, word-in, session-in};
+ghost use Rattle.host.specs.Told.{reply-in, shift-rows, Leaves, with-line, with-clock, number-in};
 use crate::memory;
+use crate::packed;
 use corridor::RowsAnswer;
+use method::Event;
 use method::EventAnswer;
+use method::Found;
+use method::Quote;
 use method::Row;
+use numbers::Millionths;
+use numbers::Seconds;
+use verdict::Change;
+use verdict::Verdict;
 
-// One event. The whole session is copied out of the memory, and back into it where the event is accepted.
-#[no_mangle]
-pub extern "C" fn sundewcup_event(
+// By way of the whole session, which is copied out of the memory and back into it.
+fn by_value(
     session: &mut [[u64; 21]; 33],
     bytes: &[u8],
     out: &mut [i64; 96],
@@ -44,6 +59,122 @@ pub extern "C" fn sundewcup_event(
             let next = r.session;
             memory::kept(session, next);
             0
+        }
+    }
+}
+
+// What a walk over the lines says of an event, and the hold that goes first, whatever the event.
+pub struct Seen {
+    pub verdict: Verdict,
+    pub first: Found,
+}
+
+fn looked(session: &[[u64; 21]; 33], e: Event) -> Seen
+    requires { ⌜ Valid (session-in (now session)) ⌝ }
+    ensures { λ r. ⌜ r .verdict ≡ screened (ids (view (session-in (now (session .entry))) .lines))
+        (session-in (now (session .entry)) .end) (session-in (now (session .entry)) .clock) e ⌝ }
+    ensures { λ r. ⌜ r .first ≡ earliest (session-in (now (session .entry)) .hold) 0 (view (session-in (now (session .entry))) .lines) Nothing ⌝ }
+{
+    let head = session[32];
+    let n = head[0] as usize;
+    let clock = Seconds(packed::word(head[1]));
+    let end = Seconds(packed::word(head[2]));
+    let wait = Seconds(packed::word(head[3]));
+    let mut ids: [u32; 32] = [0; 32];
+    let mut best = Found::Nothing;
+    for i in 0..n {
+        let row = session[i];
+        let l = packed::line(row);
+        ids[i] = l.terms.id;
+        let h = l.holds;
+        best = due::passed(wait, i, h, best);
+    }
+    let verdict = verdict::screen(&ids[..n], 0, end, clock, e);
+    Seen {
+        verdict: verdict,
+        first: best,
+    }
+}
+
+// A quote on the line at its place.
+fn quoted(session: &mut [[u64; 21]; 33], place: usize, q: Quote)
+    requires { ⌜ (place < 32) × Valid (session-in (now session))
+        × Pressed (session-in (now session) .near) (with-book (getD (session-in (now session) .lines) place blank) (q .bid) (q .ask)) ⌝ }
+    ensures { λ _. ⌜ session-in (now (session .exit)) ≡ with-line (session-in (now (session .entry))) place
+        (quoted-line (session-in (now (session .entry)) .near) (session-in (now (session .entry)) .left) q
+        (getD (session-in (now (session .entry)) .lines) place blank)) ⌝ }
+{
+    memory::rows(session);
+    let head = session[32];
+    let near = Millionths(packed::word(head[5]));
+    let row = session[place];
+    let l = packed::line(row);
+    let m = holds::shift::quoted_line(near, packed::word(head[4]), q, l);
+    session[place] = packed::row(m);
+}
+
+// The last row with another clock.
+fn with_time(head: [u64; 21], t: u32) -> [u64; 21]
+    ensures { λ r. ⌜ (at r 0 ≡ at head 0) × (word-in (at r 1) ≡ t) × (at r 2 ≡ at head 2) × (at r 3 ≡ at head 3)
+        × (at r 4 ≡ at head 4) × (at r 5 ≡ at head 5) ⌝ }
+{
+    let mut row = head;
+    row[1] = packed::word_number(t);
+    row
+}
+
+fn clocked(session: &mut [[u64; 21]; 33], t: Seconds)
+    ensures { λ _. ⌜ session-in (now (session .exit)) ≡ with-clock (session-in (now (session .entry))) t ⌝ }
+{
+    memory::rows(session);
+    let head = session[32];
+    session[32] = with_time(head, t.0);
+}
+
+// One event, where the session lies. Only where a hold is due is the session taken out of the memory.
+#[no_mangle]
+pub extern "C" fn sundewcup_event(
+    session: &mut [[u64; 21]; 33],
+    bytes: &[u8],
+    out: &mut [i64; 96],
+    made: &mut usize,
+) -> i64
+    requires { ⌜ Valid (session-in (now session)) ⌝ }
+    ensures { λ r. ⌜ r ≡ pos (event-said (reply-in (now (session .entry)) (now (bytes .entry)) .answer) .number) ⌝ }
+    ensures { λ _. ⌜ now (made .exit) ≡ reply-in (now (session .entry)) (now (bytes .entry)) .made ⌝ }
+    ensures { λ _. ⌜ now (out .exit) ≡ written (now (out .entry)) 0 (shift-rows (reply-in (now (session .entry)) (now (bytes .entry)))) ⌝ }
+    ensures { λ r. ⌜ Leaves r (now (session .entry)) (now (session .exit)) (reply-in (now (session .entry)) (now (bytes .entry)) .session) ⌝ }
+{
+    let e = wire::event::read(bytes);
+    let s = looked(session, e);
+    let said = s.verdict;
+    match said {
+        Verdict::Refused(why) => {
+            *made = 0;
+            let row = rows::row_numbers(Row::RefusedEvent(why));
+            row[1]
+        }
+        Verdict::Taken(v) => {
+            let t = v.time;
+            let head = session[32];
+            let end = Seconds(packed::word(head[2]));
+            let first = s.first;
+            match due::in_time(t, end, packed::word(head[4]), first) {
+                Found::At(_) => by_value(session, bytes, out, made),
+                Found::Nothing => {
+                    *made = 0;
+                    let change = v.change;
+                    match change {
+                        Change::Nothing => {}
+                        Change::Quote(p) => {
+                            let q = p.quote;
+                            quoted(session, p.place, q);
+                        }
+                    }
+                    clocked(session, t);
+                    0
+                }
+            }
         }
     }
 }
