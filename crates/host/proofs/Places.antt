@@ -3,7 +3,7 @@ use mathlib.Core.Path.{_≡_, refl, ap, _∙_}
 use mathlib.Core.List.{List, [], _∷_, map}
 use Prim.Native.Nat.{ℕ, zero, suc, _<_}
 use native.Mathlib.Omega.{arith}
-use lib.ListN.{length, getD, set, take}
+use lib.ListN.{length, set, take}
 use lib.Seq.{take-set-le, take-set-lt, getD-set-same, getD-set-other}
 use Rattle.method.specs.Types.{seconds, millionths}
 use Rattle.host.specs.Names.{Seconds, Line, Session}

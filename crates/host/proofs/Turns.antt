@@ -1,5 +1,5 @@
 -- An event that is answered where the session lies, with nothing due. Assumes nothing.
-use mathlib.Core.Path.{_≡_, refl, sym, ap, _∙_}
+use mathlib.Core.Path.{_≡_, sym, _∙_}
 use mathlib.Core.List.{List}
 use Prim.Native.Nat.{ℕ, _<_}
 use native.Mathlib.Omega.{arith}
@@ -10,11 +10,10 @@ use Rattle.method.specs.Search.{earliest, in-time, next-due, serve}
 use Rattle.method.specs.declared.Found.{Found}
 use Rattle.method.specs.declared.Found.the-variants.{Nothing}
 use Rattle.method.specs.declared.Quote.{Quote}
-use Rattle.holds.specs.Asks.{Pressed}
+use Rattle.pressure.specs.Asks.{Pressed}
 use Rattle.verdict.specs.declared.Change.{Change}
 use Rattle.verdict.specs.declared.Taken.{Taken}
 use Rattle.corridor.specs.declared.Served.{Served}
-use Rattle.corridor.specs.declared.Reply.{Reply}
 use Rattle.corridor.specs.View.{view, Valid}
 use Rattle.corridor.specs.Reply.{no-shift, served-as}
 use Rattle.corridor.specs.Engine.{reply-to}
@@ -24,7 +23,6 @@ use Rattle.corridor.proofs.Named.{named-below}
 use Rattle.corridor.proofs.Saying.{Changes, Takes}
 use Rattle.corridor.proofs.Events.{moved-on, lines-after, handed, quote-asks, event-taken, quote-in}
 use Rattle.host.specs.Names.{Seconds, Session}
-use Rattle.host.specs.Told.{with-clock}
 
 -- nothing is due by t
 pub quiet-so : (s : Session) (t end : Seconds) (left : ℕ) (first d : Found) → s .end ≡ end → s .left ≡ left

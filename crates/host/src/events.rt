@@ -10,7 +10,7 @@ ghost use Rattle.method.specs.Event.{with-book, quoted-line};
 ghost use Rattle.method.specs.Search.{earliest};
 ghost use Rattle.method.specs.Refusals.{event-said};
 ghost use Rattle.method.specs.declared.Found.the-variants.{Nothing};
-ghost use Rattle.holds.specs.Asks.{Pressed};
+ghost use Rattle.pressure.specs.Asks.{Pressed};
 ghost use Rattle.verdict.specs.Screened.{screened};
 ghost use Rattle.rows.specs.Buffer.{written};
 ghost use Rattle.corridor.specs.View.{view, Valid};

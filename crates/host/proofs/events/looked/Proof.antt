@@ -7,7 +7,7 @@ use native.Mathlib.Omega.{arith}
 use denote.Ref.{now}
 use lib.ListN.{set, take}
 use lib.Seq.{length-take-le}
-use Rattle.method.specs.Types.{blank, seconds}
+use Rattle.method.specs.Types.{seconds}
 use Rattle.method.specs.Opening.{ids}
 use Rattle.method.specs.Search.{passed}
 use Rattle.method.specs.Ranges.{HoldsIn}
@@ -17,7 +17,7 @@ use Rattle.corridor.specs.View.{view}
 use Rattle.corridor.proofs.Views.{ranged}
 use Rattle.corridor.proofs.Due.{Passed, row-passes, passed-turn, passed-all}
 use Rattle.corridor.proofs.Gathered.{Gathered, gathered-none, gathered-turn, gathered-all}
-use Rattle.host.specs.Names.{Seconds, Line}
+use Rattle.host.specs.Names.{Line}
 use Rattle.host.specs.Packed.{session-in}
 use Rattle.host.proofs.Asking.{count-is, line-at}
 use Rattle.host.proofs.Places.{clock-is, end-is, hold-is}

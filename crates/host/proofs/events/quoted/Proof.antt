@@ -1,12 +1,10 @@
 -- `host::events::quoted` meets its contract. Assumes nothing.
 use borrow.Author.Needs.{needs}
-use mathlib.Core.Path.{_≡_, sym, ap, subst, _∙_}
-use Prim.Native.Nat.{ℕ}
+use mathlib.Core.Path.{sym, ap, subst, _∙_}
 use denote.Ref.{now}
-use lib.ListN.{getD}
-use Rattle.method.specs.Types.{blank, millionths}
+use Rattle.method.specs.Types.{millionths}
 use Rattle.method.specs.Event.{with-book, quoted-line}
-use Rattle.holds.specs.Asks.{Pressed}
+use Rattle.pressure.specs.Asks.{Pressed}
 use Rattle.host.specs.Names.{Millionths, Line}
 use Rattle.host.specs.Packed.{session-in}
 use Rattle.host.proofs.Asking.{line-at}

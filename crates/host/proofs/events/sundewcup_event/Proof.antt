@@ -13,9 +13,8 @@ use Rattle.corridor.specs.declared.Reply.{Reply}
 use Rattle.corridor.specs.View.{view}
 use Rattle.corridor.proofs.Saying.{Changes, Says, Takes, session-says}
 use Rattle.corridor.proofs.Events.{refused-is, handed}
-use Rattle.host.specs.Names.{Seconds, Session}
 use Rattle.host.specs.Packed.{session-in}
-use Rattle.host.specs.Told.{reply-in, shift-rows, with-clock}
+use Rattle.host.specs.Told.{reply-in, shift-rows}
 use Rattle.host.proofs.Replies.{event-told, event-taken}
 use Rattle.host.proofs.Places.{end-is, left-is}
 use Rattle.host.proofs.Turns.{quiet-so, unserved, quote-goes, reply-quiet}
