@@ -1,0 +1,329 @@
+//! The proved price-corridor engine inside a Rust process, event by event.
+//!
+//! ```
+//! use sundewcup::{Event, Place, Refusal, Session};
+//!
+//! let input = std::fs::read(concat!(env!("CARGO_MANIFEST_DIR"), "/../examples/starred"))?;
+//! let (table, events) = input.split_at(88);
+//! let mut session = Session::open(table)?;
+//! let mut shifts = Vec::new();
+//! for bytes in events.chunks(20) {
+//!     shifts.extend(session.bytes(bytes)?.shifts().map(|shift| shift.second));
+//! }
+//! assert_eq!(shifts, [70, 160]);
+//! assert_eq!(session.place(7, 1151)?, Place::Above);
+//! assert_eq!(session.limits(7)?.upper, 1150);
+//! assert_eq!(session.place(8, 1000), Err(Refusal::UnknownId));
+//! assert_eq!(session.event(Event::Tick { time: 0 }).unwrap_err(), Refusal::BeforeClock);
+//! # Ok::<(), Box<dyn std::error::Error>>(())
+//! ```
+//!
+//! What is proved and what a host must not do is in docs/HOSTS.md. Safe Rust cannot break it: a [`Session`] keeps its numbers to itself.
+
+mod library;
+
+use std::error::Error;
+use std::fmt;
+
+/// Why something is refused, by the numbers of the method.
+#[derive(Clone, Copy, Debug, PartialEq, Eq, Hash)]
+#[repr(u8)]
+pub enum Refusal {
+    Length = 1,
+    Edition,
+    Header,
+    Key,
+    Field,
+    Id,
+    Exponent,
+    HalfMove,
+    Corridor,
+    AfterEnd,
+    BeforeClock,
+    Malformed,
+    UnknownId,
+    Crossed,
+}
+
+impl Refusal {
+    const ALL: [Refusal; 14] = [
+        Refusal::Length,
+        Refusal::Edition,
+        Refusal::Header,
+        Refusal::Key,
+        Refusal::Field,
+        Refusal::Id,
+        Refusal::Exponent,
+        Refusal::HalfMove,
+        Refusal::Corridor,
+        Refusal::AfterEnd,
+        Refusal::BeforeClock,
+        Refusal::Malformed,
+        Refusal::UnknownId,
+        Refusal::Crossed,
+    ];
+
+    /// The number of the refusal, 1 to 14.
+    pub fn number(self) -> u8 {
+        self as u8
+    }
+
+    fn of(number: i64) -> Option<Refusal> {
+        let place = usize::try_from(number).ok()?.checked_sub(1)?;
+        Refusal::ALL.get(place).copied()
+    }
+}
+
+impl fmt::Display for Refusal {
+    fn fmt(&self, f: &mut fmt::Formatter<'_>) -> fmt::Result {
+        f.write_str(match self {
+            Refusal::Length => "the table's length is not what its header says",
+            Refusal::Edition => "the table's edition is not known",
+            Refusal::Header => "a field of the table's header is out of range",
+            Refusal::Key => "a growth key is out of range or out of order",
+            Refusal::Field => "a field of a contract is out of range",
+            Refusal::Id => "a contract's id is 0 or used on an earlier line",
+            Refusal::Exponent => "a contract's exponent is beyond its cap",
+            Refusal::HalfMove => "a contract's half-move is 0",
+            Refusal::Corridor => "a contract's limits lie beyond its interest bounds",
+            Refusal::AfterEnd => "the event's time is after session end",
+            Refusal::BeforeClock => "the event's time is before the clock",
+            Refusal::Malformed => "the bytes are no event",
+            Refusal::UnknownId => "no contract has this id",
+            Refusal::Crossed => "the quote's bid is above its ask",
+        })
+    }
+}
+
+impl Error for Refusal {}
+
+/// A table that was refused, with the line at fault: counted from 1, 0 for the header.
+#[derive(Clone, Copy, Debug, PartialEq, Eq)]
+pub struct RefusedTable {
+    pub refusal: Refusal,
+    pub line: u32,
+}
+
+impl fmt::Display for RefusedTable {
+    fn fmt(&self, f: &mut fmt::Formatter<'_>) -> fmt::Result {
+        match self.line {
+            0 => write!(f, "header: {} (refusal {})", self.refusal, self.refusal.number()),
+            line => write!(f, "line {line}: {} (refusal {})", self.refusal, self.refusal.number()),
+        }
+    }
+}
+
+impl Error for RefusedTable {}
+
+/// What a host tells the engine. Prices are in whole minimum steps, times in seconds from session start.
+#[derive(Clone, Copy, Debug, PartialEq, Eq)]
+pub enum Event {
+    Tick { time: u32 },
+    Quote { time: u32, id: u32, bid: Option<i32>, ask: Option<i32> },
+}
+
+impl Event {
+    /// The 20 bytes of the event: time, id, flags, bid, ask, the lowest byte of each first.
+    ///
+    /// ```
+    /// use sundewcup::Event;
+    /// let bytes = Event::Quote { time: 10, id: 7, bid: Some(1046), ask: None }.to_bytes();
+    /// assert_eq!(bytes, [10, 0, 0, 0, 7, 0, 0, 0, 1, 0, 0, 0, 22, 4, 0, 0, 0, 0, 0, 0]);
+    /// ```
+    pub fn to_bytes(self) -> [u8; 20] {
+        let fields = match self {
+            Event::Tick { time } => [time, 0, 4, 0, 0],
+            Event::Quote { time, id, bid, ask } => {
+                let flags = u32::from(bid.is_some()) + 2 * u32::from(ask.is_some());
+                [time, id, flags, bid.unwrap_or(0).cast_unsigned(), ask.unwrap_or(0).cast_unsigned()]
+            }
+        };
+        let mut bytes = [0; 20];
+        for (place, field) in bytes.chunks_exact_mut(4).zip(fields) {
+            place.copy_from_slice(&field.to_le_bytes());
+        }
+        bytes
+    }
+}
+
+#[derive(Clone, Copy, Debug, PartialEq, Eq)]
+pub enum Side {
+    Up,
+    Down,
+}
+
+/// A shift: the second at which its hold fell due, its side, and the contract that called for it.
+#[derive(Clone, Copy, Debug, PartialEq, Eq)]
+pub struct Shift {
+    pub second: u32,
+    pub side: Side,
+    pub id: u32,
+}
+
+/// The answer to an accepted event: its shifts, in the order in which they were made.
+#[derive(Clone, Debug)]
+pub struct Answer {
+    rows: [i64; library::SHIFT_NUMBERS],
+    made: usize,
+}
+
+impl Answer {
+    pub fn shifts(&self) -> impl Iterator<Item = Shift> + '_ {
+        self.rows.chunks_exact(6).take(self.made).map(|row| Shift {
+            second: small(row[1]),
+            side: if row[2] == 0 { Side::Up } else { Side::Down },
+            id: small(row[3]),
+        })
+    }
+}
+
+/// Where an order price lies. Both limits count as inside.
+#[derive(Clone, Copy, Debug, PartialEq, Eq)]
+pub enum Place {
+    Below,
+    Inside,
+    Above,
+}
+
+/// The limits of a contract; `frozen` where the lower one stands at one step and no shift down moves it.
+#[derive(Clone, Copy, Debug, PartialEq, Eq)]
+pub struct Limits {
+    pub lower: i64,
+    pub upper: i64,
+    pub frozen: bool,
+}
+
+/// A session. A clone is a snapshot that goes on by itself.
+#[derive(Clone, PartialEq, Eq)]
+pub struct Session {
+    numbers: Box<[u64; library::SESSION_NUMBERS]>,
+}
+
+impl Session {
+    /// Opens a session from the bytes of a morning table.
+    ///
+    /// ```
+    /// let refused = sundewcup::Session::open(&[]).unwrap_err();
+    /// assert_eq!(refused.to_string(), "header: the table's length is not what its header says (refusal 1)");
+    /// ```
+    pub fn open(table: &[u8]) -> Result<Session, RefusedTable> {
+        assert_eq!(library::session_numbers(), library::SESSION_NUMBERS, "another library than this package was written for");
+        let mut numbers = Box::new([0; library::SESSION_NUMBERS]);
+        let (number, line) = library::open(&mut numbers, table);
+        match Refusal::of(number) {
+            None => Ok(Session { numbers }),
+            Some(refusal) => Err(RefusedTable { refusal, line: small(line) }),
+        }
+    }
+
+    /// One event. A refusal changes nothing.
+    pub fn event(&mut self, event: Event) -> Result<Answer, Refusal> {
+        self.bytes(&event.to_bytes())
+    }
+
+    /// One event as it comes from the wire; bytes that are no event are refused.
+    pub fn bytes(&mut self, event: &[u8]) -> Result<Answer, Refusal> {
+        let mut rows = [0; library::SHIFT_NUMBERS];
+        let (number, made) = library::event(&mut self.numbers, event, &mut rows);
+        Refusal::of(number).map_or(Ok(Answer { rows, made }), Err)
+    }
+
+    /// A buffer of events, 20 bytes each, as if each were handed over in turn: the shifts and the refusals, in their order.
+    pub fn feed(&mut self, events: &[u8]) -> Vec<Result<Shift, Refusal>> {
+        let mut out = vec![0; 6 * (events.len().div_ceil(20) + 16)];
+        let written = library::feed(&mut self.numbers, events, &mut out);
+        out[..written].chunks_exact(6).map(told).collect()
+    }
+
+    /// Where an order price of a contract lies, as of the last event's second.
+    pub fn place(&self, id: u32, price: i64) -> Result<Place, Refusal> {
+        match library::place(&self.numbers, id, price) {
+            -1 => Ok(Place::Below),
+            0 => Ok(Place::Inside),
+            1 => Ok(Place::Above),
+            _ => Err(Refusal::UnknownId),
+        }
+    }
+
+    /// The limits of a contract, as of the last event's second.
+    pub fn limits(&self, id: u32) -> Result<Limits, Refusal> {
+        let mut out = [0; 3];
+        match Refusal::of(library::limits(&self.numbers, id, &mut out)) {
+            None => Ok(Limits { lower: out[0], upper: out[1], frozen: out[2] != 0 }),
+            Some(refusal) => Err(refusal),
+        }
+    }
+}
+
+impl fmt::Debug for Session {
+    fn fmt(&self, f: &mut fmt::Formatter<'_>) -> fmt::Result {
+        f.write_str("Session")
+    }
+}
+
+fn told(row: &[i64]) -> Result<Shift, Refusal> {
+    match row[0] {
+        1 => Ok(Shift { second: small(row[1]), side: if row[2] == 0 { Side::Up } else { Side::Down }, id: small(row[3]) }),
+        _ => Err(Refusal::of(row[1]).unwrap_or(Refusal::Malformed)),
+    }
+}
+
+/// Seconds, ids and lines are numbers of 32 bits.
+fn small(number: i64) -> u32 {
+    u32::try_from(number).expect("a number of 32 bits")
+}
+
+#[cfg(test)]
+mod tests {
+    use super::*;
+
+    #[test]
+    fn numbers_are_the_papers() {
+        for (place, refusal) in Refusal::ALL.into_iter().enumerate() {
+            assert_eq!(usize::from(refusal.number()), place + 1);
+            assert_eq!(Refusal::of(i64::from(refusal.number())), Some(refusal));
+        }
+        assert_eq!(Refusal::of(0), None);
+        assert_eq!(Refusal::of(15), None);
+    }
+
+    fn example(name: &str) -> Vec<u8> {
+        std::fs::read(format!("{}/../examples/{name}", env!("CARGO_MANIFEST_DIR"))).expect("an example")
+    }
+
+    /// The header's counts say where the table ends.
+    fn parts(input: &[u8]) -> (&[u8], &[u8]) {
+        let count = |at: usize| u32::from_le_bytes(input[at..at + 4].try_into().expect("four bytes")) as usize;
+        input.split_at(40 + 40 * count(4) + 8 * count(12))
+    }
+
+    #[test]
+    fn events_one_by_one_are_the_buffer() {
+        for name in ["starred", "second"] {
+            let input = example(name);
+            let (table, events) = parts(&input);
+            let mut one = Session::open(table).expect("a good table");
+            let mut other = one.clone();
+            let mut answers = Vec::new();
+            for bytes in events.chunks(20) {
+                match one.bytes(bytes) {
+                    Ok(answer) => answers.extend(answer.shifts().map(Ok)),
+                    Err(refusal) => answers.push(Err(refusal)),
+                }
+            }
+            assert_eq!(answers, other.feed(events));
+            assert_eq!(one, other);
+        }
+    }
+
+    #[test]
+    fn a_refusal_changes_nothing() {
+        let input = example("starred");
+        let mut session = Session::open(parts(&input).0).expect("a good table");
+        let before = session.clone();
+        let crossed = Event::Quote { time: 1, id: 7, bid: Some(1001), ask: Some(1000) };
+        assert_eq!(session.event(crossed).unwrap_err(), Refusal::Crossed);
+        assert_eq!(session.bytes(&[0; 19]).unwrap_err(), Refusal::Malformed);
+        assert_eq!(session, before);
+    }
+}
