@@ -15,7 +15,7 @@ use Rattle.corridor.specs.View.{view, Valid}
 use Rattle.corridor.proofs.Named.{Named, named-known, walk-line}
 use Rattle.host.specs.Names.{Limits, Line, Session, EventReason, LimitsAnswer, PlaceAnswer}
 use Rattle.host.specs.declared.questions.Sought.{Sought}
-use Rattle.host.specs.Packed.{at, line-in, no-row, head-of, session-in}
+use Rattle.host.specs.Packed.{at, word-in, hold-in, line-in, no-row, head-of, session-in}
 use Rattle.host.specs.Told.{sought, told-into}
 
 -- what is read within a list does not hang on what would stand past its end
@@ -36,6 +36,20 @@ unfolding session-in
 line-at rows i n h =
     within (map line-in (take 32 rows)) i blank (line-in no-row) (omega (arith, n))
     ∙ List·getD-map line-in (take 32 rows) i no-row ∙ ap line-in (getD-take 32 rows i no-row h)
+
+-- of a row, only what a walk over all of them wants
+module _ (rows : List (List ℕ)) (i : ℕ) (n : length (session-in rows .lines) ≡ 32) (h : i < 32) where
+  pub id-at : getD (session-in rows .lines) i blank .terms .id ≡ word-in (at (getD rows i no-row) 0)
+  unfolding line-in
+  id-at = ap (λ (l : Line). l .terms .id) (line-at rows i n h)
+
+  pub holds-at : getD (session-in rows .lines) i blank .holds
+      ≡ record {
+        up = hold-in (at (getD rows i no-row) 17) (at (getD rows i no-row) 18);
+        down = hold-in (at (getD rows i no-row) 19) (at (getD rows i no-row) 20);
+      }
+  unfolding line-in
+  holds-at = ap (λ (l : Line). l .holds) (line-at rows i n h)
 
 pub sought-met : (s : Session) (id p : ℕ) → Valid s → Named id (view s .lines) p → Sought.At (getD (s .lines) p blank) ≡ sought id (view s)
 unfolding sought

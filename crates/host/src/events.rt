@@ -24,6 +24,7 @@ use corridor::RowsAnswer;
 use method::Event;
 use method::EventAnswer;
 use method::Found;
+use method::Holds;
 use method::Quote;
 use method::Row;
 use numbers::Millionths;
@@ -83,11 +84,10 @@ fn looked(session: &[[u64; 21]; 33], e: Event) -> Seen
     let mut ids: [u32; 32] = [0; 32];
     let mut best = Found::Nothing;
     for i in 0..n {
-        let row = session[i];
-        let l = packed::line(row);
-        ids[i] = l.terms.id;
-        let h = l.holds;
-        best = due::passed(wait, i, h, best);
+        ids[i] = packed::word(session[i][0]);
+        let up = packed::hold(session[i][17], session[i][18]);
+        let down = packed::hold(session[i][19], session[i][20]);
+        best = due::passed(wait, i, Holds { up: up, down: down }, best);
     }
     let verdict = verdict::screen(&ids[..n], 0, end, clock, e);
     Seen {

@@ -52,7 +52,7 @@ fn price(there: u64, n: u64) -> Price
     Price::Absent
 }
 
-fn hold(there: u64, n: u64) -> Hold
+pub fn hold(there: u64, n: u64) -> Hold
     ensures { λ r. ⌜ r ≡ hold-in there n ⌝ }
 {
     let stands = mark(there);

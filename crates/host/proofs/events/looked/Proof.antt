@@ -17,9 +17,9 @@ use Rattle.corridor.specs.View.{view}
 use Rattle.corridor.proofs.Views.{ranged}
 use Rattle.corridor.proofs.Due.{Passed, row-passes, passed-turn, passed-all}
 use Rattle.corridor.proofs.Gathered.{Gathered, gathered-none, gathered-turn, gathered-all}
-use Rattle.host.specs.Names.{Line}
+use Rattle.host.specs.Names.{Holds}
 use Rattle.host.specs.Packed.{session-in}
-use Rattle.host.proofs.Asking.{count-is, line-at}
+use Rattle.host.proofs.Asking.{count-is, id-at, holds-at}
 use Rattle.host.proofs.Places.{clock-is, end-is, hold-is}
 use Rattle.host.proofs.events.looked.Statement.{statement}
 use Rattle.host.proofs.events.looked.Tie as tie
@@ -57,14 +57,17 @@ word-requires-3 c κs = search needs
 loop-holds : tie.Need-loop-holds Inv-loop μ-loop
 loop-holds c = (omega arith, refl, gathered-none _)
 
-mul-row : tie.Need-mul-row Inv-loop μ-loop
-mul-row c = omega (arith, c .before .before .before .before .before .before .pre .few, count-is (now (c .before .before .before .before .before .before .args .session)))
+mul-word : tie.Need-mul-word Inv-loop μ-loop
+mul-word c = omega (arith, c .before .before .before .before .before .before .pre .few, count-is (now (c .before .before .before .before .before .before .args .session)))
 
-element-copy-out-row : tie.Need-element-copy-out-row Inv-loop μ-loop
-element-copy-out-row c = omega (arith, c .before .before .before .before .before .before .pre .few, count-is (now (c .before .before .before .before .before .before .args .session)))
+index-1-word : tie.Need-index-1-word Inv-loop μ-loop
+index-1-word c = omega (arith, c .before .before .before .before .before .before .pre .few, count-is (now (c .before .before .before .before .before .before .args .session)))
 
-line-requires : tie.Need-line-requires Inv-loop μ-loop
-line-requires c κs = search needs
+index-2-word : tie.Need-index-2-word Inv-loop μ-loop
+index-2-word c = search needs
+
+word-requires-4 : tie.Need-word-requires-4 Inv-loop μ-loop
+word-requires-4 c κs = search needs
 
 mul-ids : tie.Need-mul-ids Inv-loop μ-loop
 mul-ids c = omega (arith, c .before .before .before .before .before .before .before .before .pre .few, count-is (now (c .before .before .before .before .before .before .before .before .args .session)))
@@ -72,33 +75,75 @@ mul-ids c = omega (arith, c .before .before .before .before .before .before .bef
 array-write-ids : tie.Need-array-write-ids Inv-loop μ-loop
 array-write-ids c = omega (arith, c .before .before .before .before .before .before .before .before .pre .few, count-is (now (c .before .before .before .before .before .before .before .before .args .session)))
 
+mul-hold : tie.Need-mul-hold Inv-loop μ-loop
+mul-hold c = omega (arith, c .before .before .before .before .before .before .before .before .pre .few, count-is (now (c .before .before .before .before .before .before .before .before .args .session)))
+
+index-1-hold : tie.Need-index-1-hold Inv-loop μ-loop
+index-1-hold c = omega (arith, c .before .before .before .before .before .before .before .before .pre .few, count-is (now (c .before .before .before .before .before .before .before .before .args .session)))
+
+index-2-hold : tie.Need-index-2-hold Inv-loop μ-loop
+index-2-hold c = search needs
+
+mul-hold-2 : tie.Need-mul-hold-2 Inv-loop μ-loop
+mul-hold-2 c = omega (arith, c .before .before .before .before .before .before .before .before .before .pre .few, count-is (now (c .before .before .before .before .before .before .before .before .before .args .session)))
+
+index-1-hold-2 : tie.Need-index-1-hold-2 Inv-loop μ-loop
+index-1-hold-2 c = omega (arith, c .before .before .before .before .before .before .before .before .before .pre .few, count-is (now (c .before .before .before .before .before .before .before .before .before .args .session)))
+
+index-2-hold-2 : tie.Need-index-2-hold-2 Inv-loop μ-loop
+index-2-hold-2 c = search needs
+
+hold-requires : tie.Need-hold-requires Inv-loop μ-loop
+hold-requires c κs = search needs
+
+mul-hold-3 : tie.Need-mul-hold-3 Inv-loop μ-loop
+mul-hold-3 c = omega (arith, c .before .before .before .before .before .before .before .before .before .before .before .pre .few, count-is (now (c .before .before .before .before .before .before .before .before .before .before .before .args .session)))
+
+index-1-hold-3 : tie.Need-index-1-hold-3 Inv-loop μ-loop
+index-1-hold-3 c = omega (arith, c .before .before .before .before .before .before .before .before .before .before .before .pre .few, count-is (now (c .before .before .before .before .before .before .before .before .before .before .before .args .session)))
+
+index-2-hold-3 : tie.Need-index-2-hold-3 Inv-loop μ-loop
+index-2-hold-3 c = search needs
+
+mul-hold-4 : tie.Need-mul-hold-4 Inv-loop μ-loop
+mul-hold-4 c = omega (arith, c .before .before .before .before .before .before .before .before .before .before .before .before .pre .few, count-is (now (c .before .before .before .before .before .before .before .before .before .before .before .before .args .session)))
+
+index-1-hold-4 : tie.Need-index-1-hold-4 Inv-loop μ-loop
+index-1-hold-4 c = omega (arith, c .before .before .before .before .before .before .before .before .before .before .before .before .pre .few, count-is (now (c .before .before .before .before .before .before .before .before .before .before .before .before .args .session)))
+
+index-2-hold-4 : tie.Need-index-2-hold-4 Inv-loop μ-loop
+index-2-hold-4 c = search needs
+
+hold-requires-2 : tie.Need-hold-requires-2 Inv-loop μ-loop
+hold-requires-2 c κs = search needs
+
 passed-requires : tie.Need-passed-requires Inv-loop μ-loop
 passed-requires c κs =
-    let s = c .before .before .before .before .before .before .before .before .before in
-    let i = c .before .before .before .before .loop .i in
-    let below : i < session-in (now (c .before .before .before .before .before .before .before .before .before .args .session)) .count = omega (arith, count-is (now (c .before .before .before .before .before .before .before .before .before .args .session)), c .before .before .before .loop-test .taken) in
-    let line = line-at (now (c .before .before .before .before .before .before .before .before .before .args .session)) i (s .pre .full) (omega (arith, s .pre .few, count-is (now (c .before .before .before .before .before .before .before .before .before .args .session)), c .before .before .before .loop-test .taken)) ∙ sym (c .before .line .ensures) in
-    subst (λ (l : Line). HoldsIn (l .holds) × (c .before .before .before .before .before .word3 .result ≤ 3_600)) line
-    (row-passes (seconds (c .before .before .before .before .before .word3 .result)) i (ranged (s .pre)) (hold-is (now (c .before .before .before .before .before .before .before .before .before .args .session)) ∙ ap seconds (sym (c .before .before .before .before .before .word3 .ensures))) below)
+    let s = c .before .before .before .before .before .before .before .before .before .before .before .before .before .before in
+    let i = c .before .before .before .before .before .before .before .before .before .loop .i in
+    let below : i < session-in (now (c .before .before .before .before .before .before .before .before .before .before .before .before .before .before .args .session)) .count = omega (arith, count-is (now (c .before .before .before .before .before .before .before .before .before .before .before .before .before .before .args .session)), c .before .before .before .before .before .before .before .before .loop-test .taken) in
+    let holds = holds-at (now (c .before .before .before .before .before .before .before .before .before .before .before .before .before .before .args .session)) i (s .pre .full) (omega (arith, s .pre .few, below)) ∙ sym (λ j. record { up = c .before .before .before .hold .ensures j; down = c .hold2 .ensures j }) in
+    subst (λ (h : Holds). HoldsIn h × (c .before .before .before .before .before .before .before .before .before .before .word3 .result ≤ 3_600)) holds
+    (row-passes (seconds (c .before .before .before .before .before .before .before .before .before .before .word3 .result)) i (ranged (s .pre)) (hold-is (now (c .before .before .before .before .before .before .before .before .before .before .before .before .before .before .args .session)) ∙ ap seconds (sym (c .before .before .before .before .before .before .before .before .before .before .word3 .ensures))) below)
 
 add-i : tie.Need-add-i Inv-loop μ-loop
-add-i c = omega (arith, c .before .before .before .before .before .before .before .before .before .before .pre .few, count-is (now (c .before .before .before .before .before .before .before .before .before .before .args .session)))
+add-i c = omega (arith, c .before .before .before .before .before .before .before .before .before .before .before .before .before .before .before .pre .few, count-is (now (c .before .before .before .before .before .before .before .before .before .before .before .before .before .before .before .args .session)))
 
 loop-less : tie.Need-loop-less Inv-loop μ-loop
-loop-less c = omega (arith, count-is (now (c .before .before .before .before .before .before .before .before .before .before .args .session)), c .before .before .before .before .loop-test .taken)
+loop-less c = omega (arith, count-is (now (c .before .before .before .before .before .before .before .before .before .before .before .before .before .before .before .args .session)), c .before .before .before .before .before .before .before .before .before .loop-test .taken)
 
 loop-again : tie.Need-loop-again Inv-loop μ-loop
 loop-again c =
-    let s = c .before .before .before .before .before .before .before .before .before .before in
-    let at = c .before .before .before .before .before .loop in
-    let z = session-in (now (c .before .before .before .before .before .before .before .before .before .before .args .session)) in
-    let below : at .i < z .count = omega (arith, count-is (now (c .before .before .before .before .before .before .before .before .before .before .args .session)), c .before .before .before .before .loop-test .taken) in
-    let line = line-at (now (c .before .before .before .before .before .before .before .before .before .before .args .session)) (at .i) (s .pre .full) (omega (arith, s .pre .few, count-is (now (c .before .before .before .before .before .before .before .before .before .before .args .session)), c .before .before .before .before .loop-test .taken)) ∙ sym (c .before .before .line .ensures) in
-    let wait = hold-is (now (c .before .before .before .before .before .before .before .before .before .before .args .session)) ∙ ap seconds (sym (c .before .before .before .before .before .before .word3 .ensures)) in (
-      omega (arith, count-is (now (c .before .before .before .before .before .before .before .before .before .before .args .session)), c .before .before .before .before .loop-test .taken),
+    let s = c .before .before .before .before .before .before .before .before .before .before .before .before .before .before .before in
+    let at = c .before .before .before .before .before .before .before .before .before .before .loop in
+    let z = session-in (now (c .before .before .before .before .before .before .before .before .before .before .before .before .before .before .before .args .session)) in
+    let below : at .i < z .count = omega (arith, count-is (now (c .before .before .before .before .before .before .before .before .before .before .before .before .before .before .before .args .session)), c .before .before .before .before .before .before .before .before .before .loop-test .taken) in
+    let holds = holds-at (now (c .before .before .before .before .before .before .before .before .before .before .before .before .before .before .before .args .session)) (at .i) (s .pre .full) (omega (arith, s .pre .few, below)) ∙ sym (λ j. record { up = c .before .before .before .before .hold .ensures j; down = c .before .hold2 .ensures j }) in
+    let wait = hold-is (now (c .before .before .before .before .before .before .before .before .before .before .before .before .before .before .before .args .session)) ∙ ap seconds (sym (c .before .before .before .before .before .before .before .before .before .before .before .word3 .ensures)) in (
+      omega (arith, below),
       passed-turn (z .hold) (z .count) (z .lines) (at .i) (at .best) (c .passed .result) below (omega (arith, s .pre .few, s .pre .full))
-          (c .passed .ensures ∙ sym (λ j. passed (wait j) (at .i) (line j .holds) (at .best))) (at .inv .1),
-      subst (λ (l : Line). Gathered (z .lines) (at .i + 1) (set (at .ids) (at .i) (l .terms .id))) line
+          (c .passed .ensures ∙ sym (λ j. passed (wait j) (at .i) (holds j) (at .best))) (at .inv .1),
+      subst (λ (k : ℕ). Gathered (z .lines) (at .i + 1) (set (at .ids) (at .i) k)) (id-at (now (c .before .before .before .before .before .before .before .before .before .before .before .before .before .before .before .args .session)) (at .i) (s .pre .full) (omega (arith, s .pre .few, below)) ∙ sym (c .before .before .before .before .before .before .before .word4 .ensures))
           (gathered-turn (z .lines) (at .i) (at .ids) (omega (arith, s .pre .full, s .pre .few, below)) (omega (arith, s .pre .few, below)) (at .inv .2)),
     )
 
@@ -145,11 +190,26 @@ looked-spec =
     array-read-word-3
     word-requires-3
     loop-holds
-    mul-row
-    element-copy-out-row
-    line-requires
+    mul-word
+    index-1-word
+    index-2-word
+    word-requires-4
     mul-ids
     array-write-ids
+    mul-hold
+    index-1-hold
+    index-2-hold
+    mul-hold-2
+    index-1-hold-2
+    index-2-hold-2
+    hold-requires
+    mul-hold-3
+    index-1-hold-3
+    index-2-hold-3
+    mul-hold-4
+    index-1-hold-4
+    index-2-hold-4
+    hold-requires-2
     passed-requires
     add-i
     loop-less
