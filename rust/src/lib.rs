@@ -135,7 +135,7 @@ impl Event {
             Event::Tick { time } => [time, 0, 4, 0, 0],
             Event::Quote { time, id, bid, ask } => {
                 let flags = u32::from(bid.is_some()) + 2 * u32::from(ask.is_some());
-                [time, id, flags, bid.unwrap_or(0).cast_unsigned(), ask.unwrap_or(0).cast_unsigned()]
+                [time, id, flags, bid.unwrap_or(0) as u32, ask.unwrap_or(0) as u32]
             }
         };
         let mut bytes = [0; 20];
