@@ -91,7 +91,7 @@ changed : (s : Session) (x : State) (e : Event) (c : Change) → Changes x e c �
 changed s x e Change.Nothing said = rw said (unfold applied in refl)
 changed s x e (Change.Quote p) (said, named) = rw said (quote-changed s x (p .quote) (p .place) named)
 
-changes-after : (cs : List ShiftLine) (s : State) (e : Event) (c : Change) → Changes s e c → Changes (after cs s) e c
+pub changes-after : (cs : List ShiftLine) (s : State) (e : Event) (c : Change) → Changes s e c → Changes (after cs s) e c
 changes-after cs s e Change.Nothing said = said
 changes-after cs s e (Change.Quote p) (said, named) = (said, named-after (p .quote .id) cs s (p .place) named)
 

@@ -1,24 +1,25 @@
 -- A second before which no hold falls due: nothing is served before it. Assumes nothing.
-use mathlib.Core.Path.{_≡_, refl, ap}
+use mathlib.Core.Path.{_≡_, refl, sym, ap, _∙_}
 use mathlib.Core.Bool.{Bool, true, false, cond}
-use mathlib.Core.List.{[]}
-use mathlib.Core.Logic.{_⊎_, inl, inr}
-use Prim.Native.Nat.{_+_, _≤_, _<_}
+use mathlib.Core.List.{List, []}
+use Prim.Native.Nat.{ℕ, _+_, _≤_, _<_}
 use native.Mathlib.Omega.{arith}
-use borrow.Author.Tests.{ltb-true, ltb-false}
-use lib.Dec.{ltb}
-use Rattle.method.specs.Types.{State, seconds}
+use borrow.Author.Tests.{eqb-true, eqb-false, ltb-true, ltb-false}
+use lib.Dec.{eqb, ltb}
+use lib.ListN.{length, getD, set}
+use lib.Seq.{getD-set-same, getD-set-other}
+use Rattle.method.specs.Types.{State, blank, seconds}
+use Rattle.method.specs.Pressure.{hold-of}
 use Rattle.method.specs.Event.{applied}
-use Rattle.method.specs.Rule2Words.{hold-at}
-use Rattle.method.specs.CalledFor.{Stands, Calls, Done, time}
+use Rattle.method.specs.CalledFor.{Stands, Calls, Done}
 use Rattle.method.specs.Search.{earliest, serve}
 use Rattle.method.proofs.FirstFound.{not-later, Least, first-of-all}
-use Rattle.method.proofs.HoldLife.{Judged, applied-life, life-since}
+use Rattle.method.proofs.HoldLife.{Judged}
 use Rattle.method.proofs.Serving.{serve-calls, calls-unique}
 use Rattle.method.proofs.Answers.{applied-kept}
-use Rattle.corridor.specs.Names.{Seconds, Since, Event, Due, Found, Nothing, At}
+use Rattle.corridor.specs.Names.{Seconds, Side, Up, Down, Hold, Idle, Since, Holds, Line, Quote, Tick, Quoted, Due, Found, Nothing, At}
 use Rattle.corridor.specs.Quiet.{second-of, quiet-until}
-use Rattle.due.specs.Quiet.{until}
+use Rattle.due.specs.Quiet.{nearer, until}
 
 pub record Quiet (q : Seconds) (s : State) : Type 0 where
   pub none-before : (x : Due) → Stands s x → q .0 ≤ x .second .0
@@ -41,25 +42,53 @@ quiet-first s = go (earliest (s .hold) 0 (s .lines) Nothing) (first-of-all s)
     go Nothing h = record { none-before = λ x k. absurd (unfold Least in h x k) }
     go (At y) h = record { none-before = λ x k. not-later y x (unfold Least in h .1 x k) }
 
--- an event may start a hold, which falls due after the wait
-pub quiet-applied : (q : Seconds) (e : Event) (s : State) → Judged s → Quiet q s → Quiet (until q (time e) (s .hold)) (applied e s)
-quiet-applied q e s j h = record { none-before = λ x k. go x k (life-since _ _ (applied-life e s (x .side) (x .place) j) (k .held)) }
+-- ---- after an event: a tick leaves the holds, and a quote changes those of its line
+nearer-less : (q w : Seconds) (h : Hold) → nearer q w h .0 ≤ q .0
+unfolding nearer
+nearer-less q w Idle = omega arith
+nearer-less q w (Since start) = go (ltb (start .0 + w .0) (q .0)) refl
   where
-    both : (until q (time e) (s .hold) .0 ≤ q .0) × (until q (time e) (s .hold) .0 ≤ time e .0 + s .hold .0)
-    both = unfold until in pick (ltb (time e .0 + s .hold .0) (q .0)) refl
-      where
-        pick : (b : Bool) → ltb (time e .0 + s .hold .0) (q .0) ≡ b
-            → (cond b (seconds (time e .0 + s .hold .0)) q .0 ≤ q .0) × (cond b (seconds (time e .0 + s .hold .0)) q .0 ≤ time e .0 + s .hold .0)
-        pick true eb = let r = ltb-true (time e .0 + s .hold .0) (q .0) eb in (omega arith, omega arith)
-        pick false eb = let r = ltb-false (time e .0 + s .hold .0) (q .0) eb in (omega arith, omega arith)
+    go : (b : Bool) → ltb (start .0 + w .0) (q .0) ≡ b → cond b (seconds (start .0 + w .0)) q .0 ≤ q .0
+    go true e = let r = ltb-true (start .0 + w .0) (q .0) e in omega arith
+    go false e = omega arith
 
-    go : (x : Due) (k : Stands (applied e s) x) → (k .start ≡ time e) ⊎ (hold-at (x .side) s (x .place) ≡ Since (k .start))
-        → until q (time e) (s .hold) .0 ≤ x .second .0
-    go x k (inl p) =
-        let p′ : k .start .0 ≡ time e .0 = ap (λ (z : Seconds). z .0) p in
-        let w : applied e s .hold .0 ≡ s .hold .0 = ap (λ (z : Seconds). z .0) (applied-kept e s .hold) in
-        omega (arith, k .due, both .1)
-    go x k (inr p) =
-        let due : x .second .0 ≡ k .start .0 + s .hold .0 = rw (applied-kept e s .hold) at (k .due) in
-        let r = h .none-before x (record { start = k .start; held = p; due = due }) in
-        omega (arith, both .0)
+nearer-due : (q w : Seconds) (h : Hold) (start : Seconds) → h ≡ Since start → nearer q w h .0 ≤ start .0 + w .0
+unfolding nearer
+nearer-due q w h start e = rw e (go (ltb (start .0 + w .0) (q .0)) refl)
+  where
+    go : (b : Bool) → ltb (start .0 + w .0) (q .0) ≡ b → cond b (seconds (start .0 + w .0)) q .0 ≤ start .0 + w .0
+    go true e = omega arith
+    go false e = let r = ltb-false (start .0 + w .0) (q .0) e in omega arith
+
+until-less : (q w : Seconds) (h : Holds) → until q w h .0 ≤ q .0
+until-less q w h = let up = nearer-less q w (h .up) in let down = nearer-less (nearer q w (h .up)) w (h .down) in omega arith
+
+until-due : (q w : Seconds) (h : Holds) (side : Side) (start : Seconds) → hold-of side h ≡ Since start → until q w h .0 ≤ start .0 + w .0
+until-due q w h Up start e =
+    let up = nearer-due q w (h .up) start e in let down = nearer-less (nearer q w (h .up)) w (h .down) in omega arith
+until-due q w h Down start e = nearer-due (nearer q w (h .up)) w (h .down) start e
+
+pub quiet-tick : (q t : Seconds) (s : State) → Quiet q s → Quiet q (applied (Tick t) s)
+unfolding applied
+quiet-tick q t s h = record { none-before = λ x k. h .none-before x (record { start = k .start; held = k .held; due = k .due }) }
+
+pub quiet-quoted : (q : Seconds) (s : State) (e : Quote) (p : ℕ) (m : Line) → p < length (s .lines) → applied (Quoted e) s .lines ≡ set (s .lines) p m → Quiet q s
+    → Quiet (until q (s .hold) (m .holds)) (applied (Quoted e) s)
+quiet-quoted q s e p m below lines h = record { none-before = λ x k. go x k (eqb (x .place) p) refl }
+  where
+    wait : applied (Quoted e) s .hold ≡ s .hold
+    wait = applied-kept (Quoted e) s .hold
+
+    go : (x : Due) (k : Stands (applied (Quoted e) s) x) → (b : Bool) → eqb (x .place) p ≡ b → until q (s .hold) (m .holds) .0 ≤ x .second .0
+    go x k true here =
+        let held : hold-of (x .side) (m .holds) ≡ Since (k .start) =
+        ap (λ (l : Line). hold-of (x .side) (l .holds)) (sym (ap (λ (ls : List Line). getD ls (x .place) blank) lines ∙ ap (λ (n : ℕ). getD (set (s .lines) p m) n blank) (eqb-true (x .place) p here) ∙ getD-set-same (s .lines) p m blank below)) ∙ k .held in
+        let due : x .second .0 ≡ k .start .0 + s .hold .0 = rw wait at (k .due) in
+        let r = until-due q (s .hold) (m .holds) (x .side) (k .start) held in
+        omega arith
+    go x k false other =
+        let held : hold-of (x .side) (getD (s .lines) (x .place) blank .holds) ≡ Since (k .start) =
+        ap (λ (l : Line). hold-of (x .side) (l .holds)) (sym (ap (λ (ls : List Line). getD ls (x .place) blank) lines ∙ getD-set-other (s .lines) p (x .place) m blank (eqb-false (x .place) p other))) ∙ k .held in
+        let due : x .second .0 ≡ k .start .0 + s .hold .0 = rw wait at (k .due) in
+        let r = h .none-before x (record { start = k .start; held = held; due = due }) in
+        omega (arith, until-less q (s .hold) (m .holds))

@@ -4,21 +4,24 @@ use mathlib.Core.List.{List, map}
 use Prim.Native.Nat.{ℕ, _+_, _-_, _*_, _≤_, _<_}
 use native.Mathlib.Omega.{arith}
 use lib.IntN.{ℤ}
-use lib.ListN.{length, take, drop, replicate}
-use Rattle.method.specs.Types.{State, seconds}
+use lib.ListN.{length, getD, set, take, drop, replicate}
+use lib.Seq.{getD-take, getD-set-same}
+use Rattle.method.specs.Types.{State, blank, seconds}
 use Rattle.method.specs.Opening.{ids}
 use Rattle.method.specs.Shift.{after}
-use Rattle.method.specs.Event.{read, verdict, applied}
+use Rattle.method.specs.Event.{read, verdict, quoted-line, applied}
 use Rattle.method.specs.CalledFor.{time}
 use Rattle.method.specs.Search.{serve}
 use Rattle.method.specs.Program.{row-numbers, numbers-of}
 use Rattle.method.specs.declared.Row.the-variants as Row
-use Rattle.method.proofs.Serving.{serve-calls, calls-left, after-judged, after-kept}
+use Rattle.method.specs.Ranges.{HoldsIn}
+use Rattle.method.proofs.Serving.{serve-calls, calls-left}
 use Rattle.rows.specs.Buffer.{written}
 use Rattle.rows.proofs.Buffer.{nothing-written, numbers-one}
 use Rattle.verdict.specs.declared.Change.{Change}
+use Rattle.verdict.specs.declared.PlacedQuote.{PlacedQuote}
 use Rattle.verdict.specs.declared.Taken.{Taken}
-use Rattle.corridor.specs.Names.{Seconds, ShiftLine, Event, EventAnswer, EventReason}
+use Rattle.corridor.specs.Names.{Seconds, Line, Quote, ShiftLine, Event, Quoted, EventAnswer, EventReason}
 use Rattle.corridor.specs.declared.Session.{Session}
 use Rattle.corridor.specs.declared.Served.{Served}
 use Rattle.corridor.specs.declared.Reply.{Reply}
@@ -27,12 +30,15 @@ use Rattle.corridor.specs.Quiet.{quiet-until}
 use Rattle.due.specs.Quiet.{until}
 use Rattle.corridor.specs.Reply.{no-shift, served-as, refused-with}
 use Rattle.corridor.specs.Feeding.{room}
-use Rattle.corridor.proofs.Views.{view-put}
+use Rattle.corridor.proofs.Views.{view-put, ranged, ranged-length}
+use Rattle.corridor.proofs.Due.{row-passes}
 use Rattle.corridor.proofs.DueServed.{served-path, idle, ranged-served}
 use Rattle.corridor.proofs.Gathered.{ids-after, ids-applied}
-use Rattle.corridor.proofs.Saying.{Takes}
-use Rattle.corridor.proofs.Quiet.{Quiet, quiet-start, quiet-serves, quiet-first, quiet-applied}
-use Rattle.corridor.proofs.Events.{reply, refused-is, accepted, moved-on, handed, lines-after, event-taken}
+use Rattle.corridor.proofs.Named.{Named, named-below, named-quoted}
+use Rattle.corridor.proofs.Saying.{Changes, Takes}
+use Rattle.corridor.proofs.Quiet.{Quiet, quiet-start, quiet-serves, quiet-first, quiet-tick, quiet-quoted}
+use Rattle.corridor.proofs.Events.{reply, refused-is, accepted, moved-on, handed, lines-after, changes-after, event-taken}
+use Rattle.corridor.proofs.Theorems.{valid-event}
 use Rattle.corridor.proofs.Cutting.{Cut, fewer}
 use Rattle.corridor.proofs.Feeding.{Ahead, ahead-start, ahead-turn, ahead-long}
 
@@ -82,6 +88,30 @@ module _ (s : Session) (t : Seconds) (v : Valid s) (r : Served) (e : r ≡ serve
   pub served-ranged : Ranged (r .session)
   served-ranged = rw e (ranged-served s t v)
 
+-- ---- the second before which nothing is due, after what an event changes
+abbrev quoted-at : Session → PlacedQuote → Line
+quoted-at s p = quoted-line (s .near) (s .left) (p .quote) (getD (s .lines) (p .place) blank)
+
+abbrev until-after : Session → Seconds → Change → Seconds
+until-after s quiet Change.Nothing = quiet
+until-after s quiet (Change.Quote p) = until quiet (s .hold) (quoted-at s p .holds)
+
+applied-set : (s : State) (q : Quote) (p : ℕ) → Named (q .id) (s .lines) p
+    → applied (Quoted q) s .lines ≡ set (s .lines) p (quoted-line (s .near) (s .left) q (getD (s .lines) p blank))
+unfolding applied
+applied-set s q p named = named-quoted (s .near) (s .left) q (s .lines) p named
+
+quiet-changed : (s : Session) (quiet : Seconds) (e : Event) (c : Change) → Ranged s → Changes (view s) e c → Quiet quiet (view s)
+    → Quiet (until-after s quiet c) (applied e (view s))
+quiet-changed s quiet e Change.Nothing v said h = rw said (quiet-tick quiet (time e) (view s) h)
+quiet-changed s quiet e (Change.Quote p) v (said, named) h =
+    let below = named-below (p .quote .id) (view s .lines) (p .place) named in
+    let here : getD (view s .lines) (p .place) blank ≡ getD (s .lines) (p .place) blank = getD-take (s .count) (s .lines) (p .place) blank (omega (arith, below, ranged-length v)) in
+    let set-in : applied (Quoted (p .quote)) (view s) .lines ≡ set (view s .lines) (p .place) (quoted-at s p) =
+    applied-set (view s) (p .quote) (p .place) named
+    ∙ ap (λ (l : Line). set (view s .lines) (p .place) (quoted-line (s .near) (s .left) (p .quote) l)) here in
+    rw said (quiet-quoted quiet (view s) (p .quote) (p .place) (quoted-at s p) below set-in h)
+
 -- ---- at the head of the loop: what is ahead, the ids in the array, and the second before which nothing is due
 module _ (o : Session) (b : List ℕ) (out : List ℤ) (n : ℕ) (got : List ℕ) where
   pub record Turn (s : Session) (quiet : Seconds) (at from : ℕ) (now : List ℤ) : Type 0 where
@@ -127,22 +157,33 @@ module _ (o : Session) (b : List ℕ) (out : List ℤ) (n : ℕ) (got : List ℕ
       caught-view : view s′ ≡ after cs (view s)
       caught-view = ap (λ (z : Served). view (z .session)) served ∙ view-put s (after cs (view s))
 
-      caught-holds : s′ .hold ≡ s .hold
-      caught-holds = ap (λ (x : State). x .hold) caught-view ∙ after-kept cs (view s) .hold
+      caught-ranged : Ranged s′
+      caught-ranged = rw (ap (λ (z : Served). z .session) (k .served)) (ranged-served s (v .time) (h .ahead .valid))
 
-      pub turn-waits : (v .time .0 ≤ 172_800) × (s′ .hold .0 ≤ 3_600)
-      turn-waits = (
-        omega (arith, o′ .in-session, h .ahead .valid .sane .end),
-        rw caught-holds (h .ahead .valid .sane .hold .most),
-      )
+      caught-changes : (ch : Change) → v .change ≡ ch → Changes (view s′) e ch
+      caught-changes ch ec = subst (λ (x : State). Changes x e ch) (sym caught-view) (changes-after cs (view s) e ch (subst (Changes (view s) e) ec (o′ .changes)))
+
+      -- the session that is handed on is valid, so the holds of the quoted line are in their range
+      pub turn-holds : (p : PlacedQuote) → v .change ≡ Change.Quote p → (m : Line) → m ≡ quoted-at s′ p → HoldsIn (m .holds) × (s′ .hold .0 ≤ 3_600)
+      turn-holds p ec m em =
+          let named = caught-changes (Change.Quote p) ec .1 in
+          let below = named-below (p .quote .id) (view s′ .lines) (p .place) named in
+          let inside : p .place < s′ .count = omega (arith, below, ranged-length caught-ranged) in
+          let z : Session = moved-on s′ (lines-after s′ (Change.Quote p)) (s′ .clock) in
+          let valid : Valid (handed r z (v .time) .session) =
+          subst (λ (q : Reply). Valid (q .session)) (sym (event-taken s e v r o′ (k .served) (Change.Quote p) ec z refl)) (valid-event s (take (to - from) (drop from b)) (h .ahead .valid)) in
+          let passes = row-passes (s′ .hold) (p .place) (ranged valid) refl inside in
+          let stands : getD (lines-after s′ (Change.Quote p)) (p .place) blank ≡ m =
+          getD-set-same (s′ .lines) (p .place) (quoted-at s′ p) blank (omega (arith, inside, caught-ranged .few, caught-ranged .full)) ∙ sym em in
+          (subst (λ (l : Line). HoldsIn (l .holds)) stands (passes .0), passes .1)
 
       pub turn-taken : (ch : Change) → v .change ≡ ch → (z : Session) → z ≡ moved-on s′ (lines-after s′ ch) (s′ .clock) → (later : Seconds)
-          → later ≡ until quiet′ (v .time) (s′ .hold) → Turn (moved-on z (z .lines) (v .time)) later at′ to now′
+          → later ≡ until-after s′ quiet′ ch → Turn (moved-on z (z .lines) (v .time)) later at′ to now′
       turn-taken ch ec z ez later el =
           record {
             ahead = ahead-turn o b out (h .ahead) g c (handed r z (v .time)) told at′ (k .on) now′ (k .told);
             named = h .named ∙ sym (ap (λ (x : State). ids (x .lines)) then-view ∙ ids-applied e (after cs (view s)) ∙ ids-after cs (view s));
-            none-due = rw (then-view, el, o′ .timed, ap (λ (x : State). x .hold) caught-view) later-quiet;
+            none-due = rw (then-view, el) later-quiet;
           }
         where
           told : handed r z (v .time) ≡ reply s e
@@ -152,6 +193,5 @@ module _ (o : Session) (b : List ℕ) (out : List ℤ) (n : ℕ) (got : List ℕ
           then-view =
               ap (λ (q : Reply). view (q .session)) (told ∙ sym (accepted s e (o′ .accepted))) ∙ view-put s (applied e (after cs (view s)))
 
-          later-quiet : Quiet (until quiet′ (time e) (after cs (view s) .hold)) (applied e (after cs (view s)))
-          later-quiet =
-              quiet-applied quiet′ e (after cs (view s)) (after-judged cs (view s) (h .ahead .valid .sound .exact)) (subst (Quiet quiet′) caught-view (k .none-due))
+          later-quiet : Quiet (until-after s′ quiet′ ch) (applied e (after cs (view s)))
+          later-quiet = subst (λ (x : State). Quiet (until-after s′ quiet′ ch) (applied e x)) caught-view (quiet-changed s′ quiet′ e ch caught-ranged (caught-changes ch ec) (k .none-due))

@@ -64,8 +64,6 @@ impl Session {
                         self = r.session;
                         quiet = self.quiet();
                     }
-                    let wait = self.hold;
-                    quiet = due::until(quiet, t, wait);
                     let change = v.change;
                     match change {
                         Change::Nothing => {}
@@ -76,6 +74,9 @@ impl Session {
                             let l = self.lines[place];
                             let m = holds::shift::quoted_line(near, self.left, q, l);
                             self.lines[place] = m;
+                            let wait = self.hold;
+                            let h = m.holds;
+                            quiet = due::until(quiet, wait, h);
                         }
                     }
                     self.clock = t;

@@ -1,9 +1,16 @@
--- A second before which no hold falls due, after an event.
+-- A second before which no hold falls due, once a line has other holds.
 use mathlib.Core.Bool.{cond}
 use Prim.Native.Nat.{_+_}
 use lib.Dec.{ltb}
 use Rattle.method.specs.Types.{Seconds, seconds}
+use Rattle.method.specs.declared.Hold.{Hold}
+use Rattle.method.specs.declared.Hold.the-variants.{Idle, Since}
+use Rattle.method.specs.declared.Holds.{Holds}
 
--- after an event of the time t, which may start a hold
-unfoldable pub until : Seconds → Seconds → Seconds → Seconds
-until quiet t wait = cond (ltb (t .0 + wait .0) (quiet .0)) (seconds (t .0 + wait .0)) quiet
+-- the second q, or the one at which the hold falls due, whichever comes first
+unfoldable pub nearer : Seconds → Seconds → Hold → Seconds
+nearer q wait Idle = q
+nearer q wait (Since start) = cond (ltb (start .0 + wait .0) (q .0)) (seconds (start .0 + wait .0)) q
+
+abbrev pub until : Seconds → Seconds → Holds → Seconds
+until q wait h = nearer (nearer q wait (h .up)) wait (h .down)

@@ -4,7 +4,7 @@ ghost use mathlib.Core.Path.{_≡_};
 ghost use Prim.Native.Nat.{_≤_};
 ghost use Rattle.method.specs.Search.{due-of, ahead, sooner, passed, in-time};
 ghost use Rattle.method.specs.Ranges.{HoldIn, HoldsIn};
-ghost use Rattle.due.specs.Quiet.{until};
+ghost use Rattle.due.specs.Quiet.{nearer, until};
 use method::Due;
 use method::Found;
 use method::Hold;
@@ -101,14 +101,29 @@ pub fn in_time(t: Seconds, end: Seconds, left: u32, d: Found) -> Found
     }
 }
 
-// The nearer of two seconds: the one before which nothing is due so far, and the one at which a hold would fall due that starts at t.
-pub fn until(quiet: Seconds, t: Seconds, wait: Seconds) -> Seconds
-    requires { ⌜ (t .0 ≤ 172_800) × (wait .0 ≤ 3_600) ⌝ }
-    ensures { λ r. ⌜ r ≡ until quiet t wait ⌝ }
+// The nearer of two seconds: the one before which nothing is due so far, and the one at which the hold falls due.
+fn nearer(quiet: Seconds, wait: Seconds, h: Hold) -> Seconds
+    requires { ⌜ HoldIn h × (wait .0 ≤ 3_600) ⌝ }
+    ensures { λ r. ⌜ r ≡ nearer quiet wait h ⌝ }
 {
-    let due = t.0 + wait.0;
-    if due < quiet.0 {
-        return Seconds(due);
+    match h {
+        Hold::Idle => quiet,
+        Hold::Since(start) => {
+            let due = start.0 + wait.0;
+            if due < quiet.0 {
+                return Seconds(due);
+            }
+            quiet
+        }
     }
-    quiet
+}
+
+// The second before which nothing is due, once a line has these holds.
+pub fn until(quiet: Seconds, wait: Seconds, h: Holds) -> Seconds
+    requires { ⌜ HoldsIn h × (wait .0 ≤ 3_600) ⌝ }
+    ensures { λ r. ⌜ r ≡ until quiet wait h ⌝ }
+{
+    let up = h.up;
+    let down = h.down;
+    nearer(nearer(quiet, wait, up), wait, down)
 }

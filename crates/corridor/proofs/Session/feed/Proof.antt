@@ -14,6 +14,8 @@ use Rattle.verdict.specs.declared.Change.{Change}
 use Rattle.verdict.specs.declared.PlacedQuote.{PlacedQuote}
 use Rattle.verdict.specs.declared.Taken.{Taken}
 use Rattle.verdict.proofs.Finding.{slot-below}
+use Rattle.due.specs.Quiet.{until}
+use Rattle.corridor.specs.Names.{Line}
 use Rattle.corridor.specs.declared.Session.{Session}
 use Rattle.corridor.specs.View.{view}
 use Rattle.corridor.specs.Feeding.{room}
@@ -24,7 +26,7 @@ use Rattle.corridor.proofs.Saying.{Changes, Says, Takes, session-says}
 use Rattle.corridor.proofs.Events.{quote-asks, quoted-in, quote-in}
 use Rattle.corridor.proofs.Cutting.{Cut, cut-is}
 use Rattle.corridor.proofs.Feeding.{ahead-long, all-fed, all-into, nothing-fed, nothing-into}
-use Rattle.corridor.proofs.Turns.{Caught, caught-none, caught-served, served-few, served-ranged, Turn, turn-start, row-fits, shifts-fit, turn-refused, turn-waits, turn-taken}
+use Rattle.corridor.proofs.Turns.{Caught, caught-none, caught-served, served-few, served-ranged, Turn, turn-start, row-fits, shifts-fit, turn-refused, turn-holds, turn-taken}
 use Rattle.corridor.proofs.Session.feed.Statement.{statement}
 use Rattle.corridor.proofs.Session.feed.Tie as tie
 
@@ -84,7 +86,7 @@ abbrev cut-served : Served → CutOut
 cut-served c = cut-timed (c .before .before .before)
 
 abbrev cut-quoted : Quoted → CutOut
-cut-quoted c = cut-served (c .before .before .before .before .before)
+cut-quoted c = cut-served (c .before .before .before)
 
 -- ---- the event at hand: the session that meets it, its bytes, what is taken of it, and its quote
 abbrev session : CutOut → Session
@@ -266,13 +268,6 @@ caught c =
     (λ w. caught-served (at .self) _ (at .at) (at .out) (w .1 .result) (w .1 .ensures) (w .8 ∙ w .4 .ensures .1) (w .9) (w .10 ∙ w .7 .ensures) (w .11 ∙ w .4 .ensures .0))
     (λ w. caught-none (at .self) _ (at .at) (at .out) (at .quiet) (at .inv .ahead .valid) (at .inv .none-due) (w .0 .left) (w .1) (w .2) (w .3) (w .4)) (c .if2 .came)
 
-until-requires : tie.Need-until-requires Inv-loop μ-loop Inv-loop2 μ-loop2
-until-requires c κs =
-    let k = cut-served (c .before) in
-    let s = from-turning (turning k) in
-    turn-waits (s .args .t1) (now (s .args .events)) (now (s .args .out)) _ _ (turning k .loop2 .inv) (k .before .loop2-test .taken) (cut k) _
-    (takes (c .before .before .before .before)) (caught (c .before))
-
 -- ---- the line of a quote
 enum-told : tie.Need-enum-told Inv-loop μ-loop Inv-loop2 μ-loop2
 enum-told c = search needs
@@ -283,7 +278,7 @@ enum-known-change c = search needs
 changes : (c : Quoted) → Changes (view (session (cut-quoted c))) (read (bytes (cut-quoted c))) (Change.Quote (placed c))
 changes c =
     let k = cut-quoted c in
-    subst (Changes (view (session k)) (read (bytes k))) (c .before .change .given .1) (takes (c .before .before .before .before .before .before .before .before) .changes)
+    subst (Changes (view (session k)) (read (bytes k))) (c .before .change .given .1) (takes (c .before .before .before .before .before .before) .changes)
 
 below : (c : Quoted) → placed c .place < 32
 below c =
@@ -300,7 +295,7 @@ element-copy-out-l-2 c = below (c .before .before)
 quoted-line-requires : tie.Need-quoted-line-requires Inv-loop μ-loop Inv-loop2 μ-loop2
 quoted-line-requires c κs =
     let q = c .before .before .before in
-    let r = q .before .before .before .before .before in
+    let r = q .before .before .before in
     let at = turning (cut-quoted q) .loop2 in
     let o = changes q in
     quote-asks (at .self) (taken (r .before .before .before) .time) (placed q .quote) (placed q .place) _ (at .inv .ahead .valid) (o .1)
@@ -312,22 +307,33 @@ mul-m c = omega (arith, below (c .before .before .before .before))
 element-set-from-m : tie.Need-element-set-from-m Inv-loop μ-loop Inv-loop2 μ-loop2
 element-set-from-m c = below (c .before .before .before .before)
 
+until-requires : tie.Need-until-requires Inv-loop μ-loop Inv-loop2 μ-loop2
+until-requires c κs =
+    let q = c .before .before .before .before .before .before in
+    let r = q .before .before .before in
+    let k = cut-served r in
+    let s = from-turning (turning k) in
+    turn-holds (s .args .t1) (now (s .args .events)) (now (s .args .out)) _ _ (turning k .loop2 .inv) (k .before .loop2-test .taken) (cut k) _
+    (takes (r .before .before .before)) (caught r) (placed q) (q .before .change .given .1) _ (c .before .before .quoted-line .ensures)
+
 -- ---- an event that is taken: the next turn
 loop2-less-2 : tie.Need-loop2-less-2 Inv-loop μ-loop Inv-loop2 μ-loop2
-loop2-less-2 c = let k = cut (cut-served (c .before .before .before)) in omega (arith, k .on, k .inside)
+loop2-less-2 c = let k = cut (cut-served (c .before)) in omega (arith, k .on, k .inside)
 
 loop2-again-2 : tie.Need-loop2-again-2 Inv-loop μ-loop Inv-loop2 μ-loop2
 loop2-again-2 c =
-    let r = c .before .before .before in
+    let r = c .before in
     let k = cut-served r in
     let s = from-turning (turning k) in
     let then =
     turn-taken (s .args .t1) (now (s .args .events)) (now (s .args .out)) _ _ (turning k .loop2 .inv) (k .before .loop2-test .taken) (cut k) _
     (takes (r .before .before .before)) (caught r) in
-    let later = c .before .until .ensures in
     let put = quoted-in (r .if2 .self) in
-    ⊎-elim (λ w. then Change.Nothing (w .1 .given .1) (c .match2 .self) (w .2) _ later)
-    (λ w. then (Change.Quote (w .1 .given .0 .0)) (w .1 .given .1) (c .match2 .self) (w .7 ∙ ap (put (w .1 .given .0 .0 .place)) (w .6 .ensures)) _ later)
+    let later = until (r .if2 .quiet) (r .if2 .self .hold) in
+    ⊎-elim (λ w. then Change.Nothing (w .1 .given .1) (c .match2 .self) (w .2) (c .match2 .quiet) (w .3))
+    (λ w.
+    then (Change.Quote (w .1 .given .0 .0)) (w .1 .given .1) (c .match2 .self) (w .10 ∙ ap (put (w .1 .given .0 .0 .place)) (w .6 .ensures))
+    (c .match2 .quiet) (w .11 ∙ w .9 .ensures ∙ ap (λ (l : Line). later (l .holds)) (w .6 .ensures)))
     (c .match2 .came)
 
 -- ---- the end of the buffer
@@ -389,7 +395,6 @@ feed-spec =
     served-requires
     write-shifts-requires
     quiet-requires
-    until-requires
     enum-told
     enum-known-change
     mul-l-2
@@ -397,6 +402,7 @@ feed-spec =
     quoted-line-requires
     mul-m
     element-set-from-m
+    until-requires
     loop2-less-2
     loop2-again-2
     same-length
