@@ -82,29 +82,22 @@ fn judged(now: Seconds, pressed: bool, h: Hold) -> Hold
 }
 
 // Both holds of a line. Where no shift is left no hold exists, and no price is looked at.
-fn judged_holds(near: Millionths, left: u32, now: Seconds, l: Line) -> Holds
+pub fn judge(near: Millionths, left: u32, now: Seconds, l: Line) -> Line
     requires { ⌜ Pressed near l ⌝ }
-    ensures { λ r. ⌜ r ≡ (judge near left now l) .holds ⌝ }
+    ensures { λ r. ⌜ r ≡ judge near left now l ⌝ }
 {
     if left == 0 {
-        return Holds {
+        let none = Holds {
             up: Hold::Idle,
             down: Hold::Idle,
         };
+        return Line { holds: none, ..l };
     }
     let old = l.holds;
     let up = old.up;
     let down = old.down;
     let u = judged(now, presses(Side::Up, near, l), up);
     let d = judged(now, presses(Side::Down, near, l), down);
-    Holds { up: u, down: d }
-}
-
-// A line with its holds judged, and all else as it was.
-pub fn judge(near: Millionths, left: u32, now: Seconds, l: Line) -> Line
-    requires { ⌜ Pressed near l ⌝ }
-    ensures { λ r. ⌜ r ≡ judge near left now l ⌝ }
-{
-    let holds = judged_holds(near, left, now, l);
+    let holds = Holds { up: u, down: d };
     Line { holds: holds, ..l }
 }

@@ -1,15 +1,38 @@
 -- `pressure::judge` meets its contract. Assumes nothing.
 use borrow.Author.Needs.{needs}
-use Rattle.method.specs.Pressure.{judge}
+use borrow.Author.Tests.{lt-ltb, le-ltb}
+use native.Mathlib.Omega.{arith}
+use Rattle.method.specs.Pressure.{judged, judge}
 use Rattle.pressure.proofs.judge.Statement.{statement}
 use Rattle.pressure.proofs.judge.Tie as tie
 
-judged-holds-requires : tie.Need-judged-holds-requires
-judged-holds-requires c κs = search needs
-
 returns : tie.Need-returns
+unfolding judge judged
+returns c = rw (le-ltb 0 (c .before .before .before .before .before .args .left) (omega (arith, c .before .before .before .before .if1 .taken)))
+
+presses-requires : tie.Need-presses-requires
+presses-requires c κs = search needs
+
+judged-requires : tie.Need-judged-requires
+judged-requires c κs = search needs
+
+presses-requires-2 : tie.Need-presses-requires-2
+presses-requires-2 c κs = search needs
+
+judged-requires-2 : tie.Need-judged-requires-2
+judged-requires-2 c κs = search needs
+
+returns-2 : tie.Need-returns-2
 unfolding judge
-returns c = rw (c .before .before .before .before .judged-holds .ensures)
+returns-2 c = rw (c .before .before .before .before .judged2 .ensures, c .before .before .before .before .before .presses2 .ensures, c .before .before .before .before .before .before .judged .ensures, c .before .before .before .before .before .before .before .presses .ensures, lt-ltb 0 (c .before .before .before .before .before .before .before .before .before .before .args .left) (omega (arith, c .before .before .before .before .before .before .before .before .before .if1 .left)))
 
 pub judge-spec : {M : Type 1} → statement M
-judge-spec = tie.close (tie.spec judged-holds-requires returns)
+judge-spec =
+    tie.close
+    (tie.spec
+    returns
+    presses-requires
+    judged-requires
+    presses-requires-2
+    judged-requires-2
+    returns-2)
