@@ -14,8 +14,9 @@ use verdict::Verdict;
 
 impl Session {
     // Every event of the buffer in turn; a last one that is cut short is refused like any string that is no event. The room is worked out
-    // first: where it is not there, nothing is done. The session stays in its place: it goes by value only where a hold may be due, which
-    // is never before the second `quiet`. A guess at each id's place spares most searches; nothing hangs on its being right.
+    // first: where it is not there, nothing is done. The session stays in its place: before the second `quiet` no hold is due, and from it on
+    // that second is found anew before the session goes by value to be served. A guess at each id's place spares most searches; nothing
+    // hangs on its being right.
     pub fn feed(mut self, events: &[u8], out: &mut [i64]) -> Fed
         requires { ⌜ Valid self ⌝ }
         ensures { λ r. ⌜ r ≡ fed self (length (now (out .entry))) (now (events .entry)) ⌝ }
@@ -57,6 +58,9 @@ impl Session {
                 }
                 Verdict::Taken(v) => {
                     let t = v.time;
+                    if t.0 >= quiet.0 {
+                        quiet = self.quiet();
+                    }
                     if quiet.0 <= t.0 {
                         let r = self.served(t);
                         let shifts = r.shifts;

@@ -19,7 +19,8 @@ use Rattle.corridor.specs.Names.{Line}
 use Rattle.corridor.specs.declared.Session.{Session}
 use Rattle.corridor.specs.View.{view}
 use Rattle.corridor.specs.Feeding.{room}
-use Rattle.corridor.proofs.Views.{view-length}
+use Rattle.corridor.proofs.Views.{view-length, ranged}
+use Rattle.corridor.proofs.Quiet.{Quiet, quiet-first}
 use Rattle.corridor.proofs.Named.{named-below}
 use Rattle.corridor.proofs.Gathered.{Gathered, gathered-none, gathered-turn, gathered-all}
 use Rattle.corridor.proofs.Saying.{Changes, Says, Takes, session-says}
@@ -61,8 +62,11 @@ Screened = tie.After-screen Inv-loop μ-loop Inv-loop2 μ-loop2
 abbrev Timed : Type 0
 Timed = tie.After-t Inv-loop μ-loop Inv-loop2 μ-loop2
 
+abbrev Looked : Type 0
+Looked = tie.Joined2 Inv-loop μ-loop Inv-loop2 μ-loop2
+
 abbrev Served : Type 0
-Served = tie.Joined2 Inv-loop μ-loop Inv-loop2 μ-loop2
+Served = tie.Joined3 Inv-loop μ-loop Inv-loop2 μ-loop2
 
 abbrev Quoted : Type 0
 Quoted = tie.After-known-told3 Inv-loop μ-loop Inv-loop2 μ-loop2
@@ -82,8 +86,17 @@ cut-screened c = c .before .before .before .before .before .before .before
 abbrev cut-timed : Timed → CutOut
 cut-timed c = cut-screened (c .before .before .before .before)
 
+abbrev cut-looked : Looked → CutOut
+cut-looked c = cut-timed (c .before .before .before)
+
+abbrev looked : Served → Looked
+looked c = c .before .before .before
+
+abbrev timed : Served → Timed
+timed c = looked c .before .before .before
+
 abbrev cut-served : Served → CutOut
-cut-served c = cut-timed (c .before .before .before)
+cut-served c = cut-looked (looked c)
 
 abbrev cut-quoted : Quoted → CutOut
 cut-quoted c = cut-served (c .before .before .before)
@@ -242,31 +255,40 @@ loop2-again c =
 enum-known-v : tie.Need-enum-known-v Inv-loop μ-loop Inv-loop2 μ-loop2
 enum-known-v c = search needs
 
+quiet-requires : tie.Need-quiet-requires Inv-loop μ-loop Inv-loop2 μ-loop2
+quiet-requires c κs = ranged (turning (cut-timed (c .before .before .before)) .loop2 .inv .ahead .valid)
+
+-- Before the quiet second nothing is due, also where it was found anew.
+still-quiet : (c : Looked) → Quiet (c .if2 .quiet) (view (session (cut-looked c)))
+still-quiet c =
+    let s = session (cut-looked c) in
+    ⊎-elim (λ w. rw (w .2 ∙ w .1 .ensures) (quiet-first (view s))) (λ w. rw (w .1) (turning (cut-looked c) .loop2 .inv .none-due)) (c .if2 .came)
+
 served-requires : tie.Need-served-requires Inv-loop μ-loop Inv-loop2 μ-loop2
-served-requires c κs = turning (cut-timed (c .before .before .before)) .loop2 .inv .ahead .valid
+served-requires c κs = turning (cut-looked (c .before .before .before)) .loop2 .inv .ahead .valid
 
 write-shifts-requires : tie.Need-write-shifts-requires Inv-loop μ-loop Inv-loop2 μ-loop2
 write-shifts-requires c κs =
-    let k = cut-timed (c .before .before .before .before .before .before) in
+    let k = cut-looked (c .before .before .before .before .before .before) in
     let s = from-turning (turning k) in
     let at = turning k .loop2 in
     let few = served-few (at .self) _ (at .inv .ahead .valid) (c .before .before .served .result) (c .before .before .served .ensures) in
     (few .0, shifts-fit (s .args .t1) (now (s .args .events)) (now (s .args .out)) _ _ (at .inv) (k .before .loop2-test .taken) (cut k) _ (few .1))
 
-quiet-requires : tie.Need-quiet-requires Inv-loop μ-loop Inv-loop2 μ-loop2
-quiet-requires c κs =
+quiet-requires-2 : tie.Need-quiet-requires-2 Inv-loop μ-loop Inv-loop2 μ-loop2
+quiet-requires-2 c κs =
     let r = c .before .before .before .before .before in
-    let at = turning (cut-timed (r .before .before .before .before)) .loop2 in
+    let at = turning (cut-looked (r .before .before .before .before)) .loop2 in
     served-ranged (at .self) _ (at .inv .ahead .valid) (r .served .result) (r .served .ensures)
 
 caught : (c : Served)
     → let at = turning (cut-served c) .loop2 in
-    Caught (at .self) (taken (c .before .before .before) .time) (at .at) (at .out) (c .if2 .self) (c .if2 .quiet) (c .if2 .at) (c .if2 .out)
+    Caught (at .self) (taken (timed c) .time) (at .at) (at .out) (c .if3 .self) (c .if3 .quiet) (c .if3 .at) (c .if3 .out)
 caught c =
     let at = turning (cut-served c) .loop2 in
     ⊎-elim
     (λ w. caught-served (at .self) _ (at .at) (at .out) (w .1 .result) (w .1 .ensures) (w .8 ∙ w .4 .ensures .1) (w .9) (w .10 ∙ w .7 .ensures) (w .11 ∙ w .4 .ensures .0))
-    (λ w. caught-none (at .self) _ (at .at) (at .out) (at .quiet) (at .inv .ahead .valid) (at .inv .none-due) (w .0 .left) (w .1) (w .2) (w .3) (w .4)) (c .if2 .came)
+    (λ w. caught-none (at .self) _ (at .at) (at .out) _ (at .inv .ahead .valid) (still-quiet (looked c)) (w .0 .left) (w .1) (w .2) (w .3) (w .4)) (c .if3 .came)
 
 -- ---- the line of a quote
 enum-told : tie.Need-enum-told Inv-loop μ-loop Inv-loop2 μ-loop2
@@ -278,7 +300,7 @@ enum-known-change c = search needs
 changes : (c : Quoted) → Changes (view (session (cut-quoted c))) (read (bytes (cut-quoted c))) (Change.Quote (placed c))
 changes c =
     let k = cut-quoted c in
-    subst (Changes (view (session k)) (read (bytes k))) (c .before .change .given .1) (takes (c .before .before .before .before .before .before) .changes)
+    subst (Changes (view (session k)) (read (bytes k))) (c .before .change .given .1) (takes (timed (c .before .before .before)) .changes)
 
 below : (c : Quoted) → placed c .place < 32
 below c =
@@ -298,7 +320,7 @@ quoted-line-requires c κs =
     let r = q .before .before .before in
     let at = turning (cut-quoted q) .loop2 in
     let o = changes q in
-    quote-asks (at .self) (taken (r .before .before .before) .time) (placed q .quote) (placed q .place) _ (at .inv .ahead .valid) (o .1)
+    quote-asks (at .self) (taken (timed r) .time) (placed q .quote) (placed q .place) _ (at .inv .ahead .valid) (o .1)
     (quote-in _ (placed q .quote) (o .0)) (caught r .served)
 
 mul-m : tie.Need-mul-m Inv-loop μ-loop Inv-loop2 μ-loop2
@@ -314,7 +336,7 @@ until-requires c κs =
     let k = cut-served r in
     let s = from-turning (turning k) in
     turn-holds (s .args .t1) (now (s .args .events)) (now (s .args .out)) _ _ (turning k .loop2 .inv) (k .before .loop2-test .taken) (cut k) _
-    (takes (r .before .before .before)) (caught r) (placed q) (q .before .change .given .1) _ (c .before .before .quoted-line .ensures)
+    (takes (timed r)) (caught r) (placed q) (q .before .change .given .1) _ (c .before .before .quoted-line .ensures)
 
 -- ---- an event that is taken: the next turn
 loop2-less-2 : tie.Need-loop2-less-2 Inv-loop μ-loop Inv-loop2 μ-loop2
@@ -327,9 +349,9 @@ loop2-again-2 c =
     let s = from-turning (turning k) in
     let then =
     turn-taken (s .args .t1) (now (s .args .events)) (now (s .args .out)) _ _ (turning k .loop2 .inv) (k .before .loop2-test .taken) (cut k) _
-    (takes (r .before .before .before)) (caught r) in
-    let put = quoted-in (r .if2 .self) in
-    let later = until (r .if2 .quiet) (r .if2 .self .hold) in
+    (takes (timed r)) (caught r) in
+    let put = quoted-in (r .if3 .self) in
+    let later = until (r .if3 .quiet) (r .if3 .self .hold) in
     ⊎-elim (λ w. then Change.Nothing (w .1 .given .1) (c .match2 .self) (w .2) (c .match2 .quiet) (w .3))
     (λ w.
     then (Change.Quote (w .1 .given .0 .0)) (w .1 .given .1) (c .match2 .self) (w .10 ∙ ap (put (w .1 .given .0 .0 .place)) (w .6 .ensures))
@@ -392,9 +414,10 @@ feed-spec =
     loop2-less
     loop2-again
     enum-known-v
+    quiet-requires
     served-requires
     write-shifts-requires
-    quiet-requires
+    quiet-requires-2
     enum-told
     enum-known-change
     mul-l-2
