@@ -25,10 +25,7 @@ enum {
     GATE_INPUTS_FOR_EACH_COUNT = 100,
     PROGRESS_INPUTS = 20000,
     MOST_NUMBERS = ROWS_ROOM(LONGEST_INPUT),
-    GUARD_NUMBERS = 64,
-    /* Five numbers of at most twenty characters, the spaces and the line's end. */
-    LONGEST_ROW_TEXT = 105,
-    TEXT_BYTES = MOST_NUMBERS / ROW_NUMBERS * LONGEST_ROW_TEXT + 2
+    GUARD_NUMBERS = 64
 };
 
 static const uint64_t GATE_SEED = 1;
@@ -112,15 +109,6 @@ static bool same_rows(const Trial *trial)
         && memcmp(trial->second.numbers, trial->library.numbers, count * sizeof(int64_t)) == 0;
 }
 
-static bool same_text(const Trial *trial, const uint8_t *bytes, size_t length)
-{
-    static char of_rows[TEXT_BYTES];
-    static char of_program[TEXT_BYTES];
-    return trial->library.count <= MOST_NUMBERS
-        && text_of_rows(trial->library.numbers, trial->library.count, of_rows, TEXT_BYTES)
-        && text_of_program(bytes, length, of_program, TEXT_BYTES) && strcmp(of_rows, of_program) == 0;
-}
-
 static bool untouched_from(const Answer *answer, size_t first)
 {
     for (size_t i = first; i < MOST_NUMBERS + GUARD_NUMBERS; i++) {
@@ -172,7 +160,7 @@ static bool compare(Compared *compared, const uint8_t *bytes, size_t length, uin
     run_both(trial, input, number % 2 == 0 ? ROWS_ROOM(input.events_length) : MOST_NUMBERS);
     run_both(other, other_parts(bytes, length, number), MOST_NUMBERS);
     differs[COMPARED_ROWS] = !same_rows(trial);
-    differs[COMPARED_TEXT] = !same_text(trial, bytes, length);
+    differs[COMPARED_TEXT] = !text_same(trial->library.numbers, trial->library.count, bytes, length);
     differs[COMPARED_PAST_ROWS] = !untouched_from(&trial->library, trial->library.count);
     differs[COMPARED_SHORT_ROOM] = !refuses_short_room(&input);
     differs[COMPARED_OTHER_PARTS] = !same_rows(other) || !untouched_from(&other->library, other->library.count);

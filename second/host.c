@@ -7,6 +7,7 @@
 #include "generate.h"
 #include "random.h"
 #include "rows.h"
+#include "text.h"
 
 #include "sundewcup_host.h"
 
@@ -21,6 +22,7 @@ static const uint64_t SEED = 3;
 
 typedef enum {
     COMPARED_ROWS,
+    COMPARED_TEXT,
     COMPARED_FEED,
     COMPARED_REFUSED,
     COMPARED_SHORT_ROOM,
@@ -30,6 +32,7 @@ typedef enum {
 
 static const char *const NAMES[COMPARISONS] = {
     [COMPARED_ROWS] = "rows, event by event",
+    [COMPARED_TEXT] = "text of the rows and of the second program",
     [COMPARED_FEED] = "rows, in buffers, and the session that they leave",
     [COMPARED_REFUSED] = "a refused event changes no number",
     [COMPARED_SHORT_ROOM] = "too little room said, nothing done",
@@ -185,6 +188,7 @@ static void take(const uint8_t *bytes, size_t length, uint64_t number)
     run_buffers(other, &input, number, &buffers);
     size_t size = second.count * sizeof(int64_t);
     expect(COMPARED_ROWS, second.count == events.count && memcmp(second.numbers, events.numbers, size) == 0);
+    expect(COMPARED_TEXT, text_same(events.numbers, events.count, bytes, length));
     if (second.count == 0 || second.numbers[0] != ROW_REFUSED_TABLE) {
         expect(COMPARED_FEED, second.count == buffers.count && memcmp(second.numbers, buffers.numbers, size) == 0);
     }

@@ -5,10 +5,19 @@
 
 #include "text.h"
 
+#include "generate.h"
 #include "program.h"
 #include "rows.h"
 
 #include <inttypes.h>
+#include <string.h>
+
+enum {
+    MOST_NUMBERS = ROWS_ROOM(LONGEST_INPUT),
+    /* Five numbers of at most twenty characters, the spaces and the line's end. */
+    LONGEST_ROW_TEXT = 105,
+    TEXT_BYTES = MOST_NUMBERS / ROW_NUMBERS * LONGEST_ROW_TEXT + 2
+};
 
 /* Closes the stream over the room; the byte after what was printed becomes the text's end. */
 static bool end_text(FILE *output, char *text)
@@ -56,4 +65,12 @@ bool text_of_rows(const int64_t *rows, size_t count, char *text, size_t room)
         good = print_row(to, rows + i);
     }
     return to != NULL && end_text(to, text) && good;
+}
+
+bool text_same(const int64_t *rows, size_t count, const uint8_t *input, size_t length)
+{
+    static char of_rows[TEXT_BYTES];
+    static char of_program[TEXT_BYTES];
+    return count <= MOST_NUMBERS && text_of_rows(rows, count, of_rows, TEXT_BYTES)
+        && text_of_program(input, length, of_program, TEXT_BYTES) && strcmp(of_rows, of_program) == 0;
 }

@@ -11,4 +11,8 @@
 bool text_of_program(const uint8_t *input, size_t length, char *text, size_t room);
 bool text_of_rows(const int64_t *rows, size_t count, char *text, size_t room);
 
+/* Whether the text of the rows is, byte for byte, what the program prints for the input, which is no longer
+   than a generated one. */
+bool text_same(const int64_t *rows, size_t count, const uint8_t *input, size_t length);
+
 #endif
