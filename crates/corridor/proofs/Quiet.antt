@@ -1,25 +1,26 @@
 -- A second before which no hold falls due: nothing is served before it. Assumes nothing.
 use mathlib.Core.Path.{_≡_, refl, sym, ap, _∙_}
 use mathlib.Core.Bool.{Bool, true, false, cond}
-use mathlib.Core.List.{List, []}
-use Prim.Native.Nat.{ℕ, _+_, _≤_, _<_}
+use mathlib.Core.List.{List, [], _∷_}
+use Prim.Native.Nat.{ℕ, zero, suc, _+_, _≤_, _<_}
+use native.Mathlib.Numerals.{add-one}
 use native.Mathlib.Omega.{arith}
 use borrow.Author.Tests.{eqb-true, eqb-false, ltb-true, ltb-false}
 use lib.Dec.{eqb, ltb}
-use lib.ListN.{length, getD, set}
+use lib.ListN.{length, getD, set, take, drop}
 use lib.Seq.{getD-set-same, getD-set-other}
+use Rattle.numbers.proofs.Arrays.{passing, all-passed}
 use Rattle.method.specs.Types.{State, blank, seconds}
 use Rattle.method.specs.Pressure.{hold-of}
 use Rattle.method.specs.Event.{applied}
 use Rattle.method.specs.CalledFor.{Stands, Calls, Done}
-use Rattle.method.specs.Search.{earliest, serve}
-use Rattle.method.proofs.FirstFound.{not-later, Least, first-of-all}
-use Rattle.method.proofs.HoldLife.{Judged}
+use Rattle.method.specs.Search.{serve}
+use Rattle.method.proofs.HoldLife.{Judged, no-since, blank-idle}
 use Rattle.method.proofs.Serving.{serve-calls, calls-unique}
 use Rattle.method.proofs.Answers.{applied-kept}
-use Rattle.corridor.specs.Names.{Seconds, Side, Up, Down, Hold, Idle, Since, Holds, Line, Quote, Tick, Quoted, Due, Found, Nothing, At}
-use Rattle.corridor.specs.Quiet.{second-of, quiet-until}
-use Rattle.due.specs.Quiet.{nearer, until}
+use Rattle.corridor.specs.Names.{Seconds, Side, Up, Down, Hold, Idle, Since, Holds, Line, Quote, Tick, Quoted, Due}
+use Rattle.corridor.specs.Quiet.{quiet-until}
+use Rattle.due.specs.Quiet.{nearer, until, until-all}
 
 pub record Quiet (q : Seconds) (s : State) : Type 0 where
   pub none-before : (x : Due) → Stands s x → q .0 ≤ x .second .0
@@ -34,15 +35,7 @@ quiet-serves q t s j h g = calls-unique t s (serve (s .left) t s) [] (serve-call
     none : Done t s
     none = unfold Done in λ x k e. let r = h .none-before x k in omega arith
 
--- the hold that goes first
-pub quiet-first : (s : State) → Quiet (quiet-until s) s
-quiet-first s = go (earliest (s .hold) 0 (s .lines) Nothing) (first-of-all s)
-  where
-    go : (d : Found) → Least (Stands s) d → Quiet (second-of d) s
-    go Nothing h = record { none-before = λ x k. absurd (unfold Least in h x k) }
-    go (At y) h = record { none-before = λ x k. not-later y x (unfold Least in h .1 x k) }
-
--- ---- after an event: a tick leaves the holds, and a quote changes those of its line
+-- ---- holds that are passed bring it forward, to their second at least
 nearer-less : (q w : Seconds) (h : Hold) → nearer q w h .0 ≤ q .0
 unfolding nearer
 nearer-less q w Idle = omega arith
@@ -68,6 +61,41 @@ until-due q w h Up start e =
     let up = nearer-due q w (h .up) start e in let down = nearer-less (nearer q w (h .up)) w (h .down) in omega arith
 until-due q w h Down start e = nearer-due (nearer q w (h .up)) w (h .down) start e
 
+-- ---- over all lines: the rows from i on, with the second so far, give what all rows give
+abbrev pub Until : Seconds → ℕ → List Line → ℕ → Seconds → Type 0
+Until wait n rows i q = until-all q wait (drop i (take n rows)) ≡ until-all (seconds 4_294_967_295) wait (take n rows)
+
+pub until-turn : (wait : Seconds) (n : ℕ) (rows : List Line) (i : ℕ) (q more : Seconds) → i < n → n ≤ length rows
+    → more ≡ until q wait (getD rows i blank .holds) → Until wait n rows i q → Until wait n rows (i + 1) more
+unfolding until-all
+until-turn wait n rows i q more h g e p = rw (e, add-one) (rw (passing i n rows blank h g) at p)
+
+pub until-end : (wait : Seconds) (n : ℕ) (rows : List Line) (i : ℕ) (q : Seconds) → n ≤ length rows → i ≡ n → Until wait n rows i q
+    → q ≡ until-all (seconds 4_294_967_295) wait (take n rows)
+unfolding until-all
+until-end wait n rows i q g e p = rw (e, all-passed n rows g) at p
+
+all-less : (q w : Seconds) (ls : List Line) → until-all q w ls .0 ≤ q .0
+unfolding until-all
+all-less q w [] = omega arith
+all-less q w (l ∷ ls) = let here = until-less q w (l .holds) in let rest = all-less (until q w (l .holds)) w ls in omega arith
+
+all-due : (q w : Seconds) (ls : List Line) (p : ℕ) (side : Side) (start : Seconds) → hold-of side (getD ls p blank .holds) ≡ Since start
+    → until-all q w ls .0 ≤ start .0 + w .0
+unfolding until-all
+all-due q w [] p side start e = absurd (no-since (sym (blank-idle side) ∙ e))
+all-due q w (l ∷ ls) zero side start e =
+    let here = until-due q w (l .holds) side start e in let rest = all-less (until q w (l .holds)) w ls in omega arith
+all-due q w (l ∷ ls) (suc p) side start e = all-due (until q w (l .holds)) w ls p side start e
+
+-- the hold that goes first
+pub quiet-first : (s : State) → Quiet (quiet-until s) s
+quiet-first s =
+    record {
+      none-before = λ x k. let r = all-due (seconds 4_294_967_295) (s .hold) (s .lines) (x .place) (x .side) (k .start) (k .held) in omega (arith, k .due);
+    }
+
+-- ---- after an event: a tick leaves the holds, and a quote changes those of its line
 pub quiet-tick : (q t : Seconds) (s : State) → Quiet q s → Quiet q (applied (Tick t) s)
 unfolding applied
 quiet-tick q t s h = record { none-before = λ x k. h .none-before x (record { start = k .start; held = k .held; due = k .due }) }

@@ -1,12 +1,8 @@
 -- A second before which no hold falls due, so that nothing has to be searched for before it.
 use Rattle.method.specs.Types.{State, seconds}
-use Rattle.method.specs.Search.{earliest}
-use Rattle.corridor.specs.Names.{Seconds, Found, Nothing, At}
+use Rattle.due.specs.Quiet.{until-all}
+use Rattle.corridor.specs.Names.{Seconds}
 
--- the second of a hold that is found; where none is, one that no event reaches
-abbrev pub second-of : Found → Seconds
-second-of Nothing = seconds 4_294_967_295
-second-of (At x) = x .second
-
+-- that of the hold that goes first; where none stands, one that no event reaches
 abbrev pub quiet-until : State → Seconds
-quiet-until s = second-of (earliest (s .hold) 0 (s .lines) Nothing)
+quiet-until s = until-all (seconds 4_294_967_295) (s .hold) (s .lines)

@@ -83,15 +83,12 @@ impl Session {
     {
         let n = self.count;
         let wait = self.hold;
-        let mut best = Found::Nothing;
+        let mut quiet = Seconds(4294967295);
         for i in 0..n {
             let l = self.lines[i];
             let h = l.holds;
-            best = due::passed(wait, i, h, best);
+            quiet = due::until(quiet, wait, h);
         }
-        match best {
-            Found::Nothing => Seconds(4294967295),
-            Found::At(d) => d.second,
-        }
+        quiet
     }
 }

@@ -1,21 +1,18 @@
 -- `corridor::Session::quiet` meets its contract. Assumes nothing.
 use borrow.Author.Needs.{needs}
-use mathlib.Core.Path.{_≡_, refl, sym, ap, _∙_}
+use mathlib.Core.Path.{_≡_, refl}
 use Prim.Native.Nat.{_≤_, _-_}
 use native.Mathlib.Omega.{arith}
-use Rattle.method.specs.Search.{earliest}
-use Rattle.corridor.specs.Names.{Nothing}
-use Rattle.corridor.specs.View.{view}
-use Rattle.corridor.specs.Quiet.{second-of}
-use Rattle.corridor.proofs.Due.{Passed, row-passes, passed-turn, passed-all}
+use Rattle.corridor.proofs.Due.{row-passes}
+use Rattle.corridor.proofs.Quiet.{Until, until-turn, until-end}
 use Rattle.corridor.proofs.Session.quiet.Statement.{statement}
 use Rattle.corridor.proofs.Session.quiet.Tie as tie
 
 abbrev Inv-loop : tie.InvT-loop
-Inv-loop self n wait best₀ i₀ best i = (i ≤ n) × Passed wait n (self .lines) i best
+Inv-loop self n wait quiet₀ i₀ quiet i = (i ≤ n) × Until wait n (self .lines) i quiet
 
 abbrev μ-loop : tie.MeasureT-loop
-μ-loop self n wait best₀ i₀ best i = n - i
+μ-loop self n wait quiet₀ i₀ quiet i = n - i
 
 loop-holds : tie.Need-loop-holds Inv-loop μ-loop
 loop-holds c = (omega arith, refl)
@@ -26,8 +23,8 @@ mul-l c = let v = c .before .before .before .pre in omega (arith, v .few)
 element-copy-out-l : tie.Need-element-copy-out-l Inv-loop μ-loop
 element-copy-out-l c = let v = c .before .before .before .pre in omega (arith, v .few, v .full)
 
-passed-requires : tie.Need-passed-requires Inv-loop μ-loop
-passed-requires c κs = row-passes _ (c .before .before .before .loop .i) (c .before .before .before .before .before .pre) refl (omega arith)
+until-requires : tie.Need-until-requires Inv-loop μ-loop
+until-requires c κs = row-passes _ (c .before .before .before .loop .i) (c .before .before .before .before .before .pre) refl (omega arith)
 
 add-i : tie.Need-add-i Inv-loop μ-loop
 add-i c = let v = c .before .before .before .before .before .before .pre in omega (arith, v .few)
@@ -39,40 +36,12 @@ loop-again : tie.Need-loop-again Inv-loop μ-loop
 loop-again c =
     let s = c .before .before .before .before .before .before in
     let at = c .before .before .before .before .loop in
-    (omega arith, passed-turn _ (s .args .t1 .count) (s .args .t1 .lines) (at .i) _ _ (omega arith) (omega (arith, s .pre .few, s .pre .full)) (c .passed .ensures) (at .inv .1))
-
-enum-told : tie.Need-enum-told Inv-loop μ-loop
-enum-told c = search needs
-
-enum-known-best : tie.Need-enum-known-best Inv-loop μ-loop
-enum-known-best c = search needs
-
--- all rows passed: the best is the first of all
-first : (c : tie.After-loop Inv-loop μ-loop) → c .before .loop .best ≡ earliest (c .before .before .before .args .t1 .hold) 0 (view (c .before .before .before .args .t1) .lines) Nothing
-first c =
-    let s = c .before .before .before in
-    passed-all _ (s .args .t1 .count) (s .args .t1 .lines) (c .before .loop .i) (c .before .loop .best) (omega (arith, s .pre .few, s .pre .full)) (omega arith) (c .before .loop .inv .1)
+    (omega arith, until-turn _ (s .args .t1 .count) (s .args .t1 .lines) (at .i) _ _ (omega arith) (omega (arith, s .pre .few, s .pre .full)) (c .until .ensures) (at .inv .1))
 
 returns : tie.Need-returns Inv-loop μ-loop
-returns c = sym (ap second-of (sym (first (c .before .before)) ∙ c .enum-told .given .1))
-
-returns-2 : tie.Need-returns-2 Inv-loop μ-loop
-returns-2 c = sym (ap second-of (sym (first (c .before .before .before .before)) ∙ c .before .before .best .given .1))
+returns c =
+    let s = c .before .before .before in
+    until-end _ (s .args .t1 .count) (s .args .t1 .lines) (c .before .loop .i) (c .before .loop .quiet) (omega (arith, s .pre .few, s .pre .full)) (omega arith) (c .before .loop .inv .1)
 
 pub quiet-spec : {M : Type 1} → statement M
-quiet-spec =
-    tie.close
-    (tie.spec
-    Inv-loop
-    μ-loop
-    loop-holds
-    mul-l
-    element-copy-out-l
-    passed-requires
-    add-i
-    loop-less
-    loop-again
-    enum-told
-    enum-known-best
-    returns
-    returns-2)
+quiet-spec = tie.close (tie.spec Inv-loop μ-loop loop-holds mul-l element-copy-out-l until-requires add-i loop-less loop-again returns)
