@@ -7,13 +7,12 @@ ghost use lib.ListN.{length, getD};
 ghost use Rattle.method.specs.Types.{blank};
 ghost use Rattle.method.specs.Opening.{ids};
 ghost use Rattle.method.specs.Event.{with-book, quoted-line};
-ghost use Rattle.method.specs.Search.{earliest};
 ghost use Rattle.method.specs.Refusals.{event-said};
-ghost use Rattle.method.specs.declared.Found.the-variants.{Nothing};
 ghost use Rattle.pressure.specs.Asks.{Pressed};
 ghost use Rattle.verdict.specs.Screened.{screened};
 ghost use Rattle.rows.specs.Buffer.{written};
 ghost use Rattle.corridor.specs.View.{view, Valid};
+ghost use Rattle.corridor.specs.Quiet.{quiet-until};
 ghost use Rattle.corridor.specs.Feeding.{fed, fed-into};
 ghost use Rattle.corridor.specs.Closing.{closed, closed-into};
 ghost use Rattle.host.specs.Packed.{at, word-in, session-in};
@@ -23,7 +22,6 @@ use crate::packed;
 use corridor::RowsAnswer;
 use method::Event;
 use method::EventAnswer;
-use method::Found;
 use method::Holds;
 use method::Quote;
 use method::Row;
@@ -64,17 +62,17 @@ fn by_value(
     }
 }
 
-// What a walk over the lines says of an event, and the hold that goes first, whatever the event.
+// What a walk over the lines says of an event, and the second before which no hold falls due, whatever the event.
 pub struct Seen {
     pub verdict: Verdict,
-    pub first: Found,
+    pub quiet: Seconds,
 }
 
 fn looked(session: &[[u64; 21]; 33], e: Event) -> Seen
     requires { ⌜ Valid (session-in (now session)) ⌝ }
     ensures { λ r. ⌜ r .verdict ≡ screened (ids (view (session-in (now (session .entry))) .lines))
         (session-in (now (session .entry)) .end) (session-in (now (session .entry)) .clock) e ⌝ }
-    ensures { λ r. ⌜ r .first ≡ earliest (session-in (now (session .entry)) .hold) 0 (view (session-in (now (session .entry))) .lines) Nothing ⌝ }
+    ensures { λ r. ⌜ r .quiet ≡ quiet-until (view (session-in (now (session .entry)))) ⌝ }
 {
     let head = session[32];
     let n = head[0] as usize;
@@ -82,17 +80,17 @@ fn looked(session: &[[u64; 21]; 33], e: Event) -> Seen
     let end = Seconds(packed::word(head[2]));
     let wait = Seconds(packed::word(head[3]));
     let mut ids: [u32; 32] = [0; 32];
-    let mut best = Found::Nothing;
+    let mut quiet = Seconds(4294967295);
     for i in 0..n {
         ids[i] = packed::word(session[i][0]);
         let up = packed::hold(session[i][17], session[i][18]);
         let down = packed::hold(session[i][19], session[i][20]);
-        best = due::passed(wait, i, Holds { up: up, down: down }, best);
+        quiet = due::until(quiet, wait, Holds { up: up, down: down });
     }
     let verdict = verdict::screen(&ids[..n], 0, end, clock, e);
     Seen {
         verdict: verdict,
-        first: best,
+        quiet: quiet,
     }
 }
 
@@ -131,7 +129,7 @@ fn clocked(session: &mut [[u64; 21]; 33], t: Seconds)
     session[32] = with_time(head, t.0);
 }
 
-// One event, where the session lies. Only where a hold is due is the session taken out of the memory.
+// One event, where the session lies. Only where a hold falls due by its second is the session taken out of the memory.
 #[no_mangle]
 pub extern "C" fn sundewcup_event(
     session: &mut [[u64; 21]; 33],
@@ -156,25 +154,20 @@ pub extern "C" fn sundewcup_event(
         }
         Verdict::Taken(v) => {
             let t = v.time;
-            let head = session[32];
-            let end = Seconds(packed::word(head[2]));
-            let first = s.first;
-            match due::in_time(t, end, packed::word(head[4]), first) {
-                Found::At(_) => by_value(session, bytes, out, made),
-                Found::Nothing => {
-                    *made = 0;
-                    let change = v.change;
-                    match change {
-                        Change::Nothing => {}
-                        Change::Quote(p) => {
-                            let q = p.quote;
-                            quoted(session, p.place, q);
-                        }
-                    }
-                    clocked(session, t);
-                    0
+            if s.quiet.0 <= t.0 {
+                return by_value(session, bytes, out, made);
+            }
+            *made = 0;
+            let change = v.change;
+            match change {
+                Change::Nothing => {}
+                Change::Quote(p) => {
+                    let q = p.quote;
+                    quoted(session, p.place, q);
                 }
             }
+            clocked(session, t);
+            0
         }
     }
 }

@@ -9,13 +9,14 @@ use lib.ListN.{set, take}
 use lib.Seq.{length-take-le}
 use Rattle.method.specs.Types.{seconds}
 use Rattle.method.specs.Opening.{ids}
-use Rattle.method.specs.Search.{passed}
 use Rattle.method.specs.Ranges.{HoldsIn}
 use Rattle.method.specs.Sound.{Distinct}
 use Rattle.verdict.specs.Screened.{screened}
 use Rattle.corridor.specs.View.{view}
 use Rattle.corridor.proofs.Views.{ranged}
-use Rattle.corridor.proofs.Due.{Passed, row-passes, passed-turn, passed-all}
+use Rattle.due.specs.Quiet.{until}
+use Rattle.corridor.proofs.Due.{row-passes}
+use Rattle.corridor.proofs.Quiet.{Until, until-turn, until-end}
 use Rattle.corridor.proofs.Gathered.{Gathered, gathered-none, gathered-turn, gathered-all}
 use Rattle.host.specs.Names.{Holds}
 use Rattle.host.specs.Packed.{session-in}
@@ -25,10 +26,10 @@ use Rattle.host.proofs.events.looked.Statement.{statement}
 use Rattle.host.proofs.events.looked.Tie as tie
 
 abbrev Inv-loop : tie.InvT-loop
-Inv-loop session e n clock end wait ids₀ best₀ i₀ ids best i = (i ≤ session-in session .count) × Passed (session-in session .hold) (session-in session .count) (session-in session .lines) i best × Gathered (session-in session .lines) i ids
+Inv-loop session e n clock end wait ids₀ quiet₀ i₀ ids quiet i = (i ≤ session-in session .count) × Until (session-in session .hold) (session-in session .count) (session-in session .lines) i quiet × Gathered (session-in session .lines) i ids
 
 abbrev μ-loop : tie.MeasureT-loop
-μ-loop session e n clock end wait ids₀ best₀ i₀ ids best i = session-in session .count - i
+μ-loop session e n clock end wait ids₀ quiet₀ i₀ ids quiet i = session-in session .count - i
 
 element-copy-out-head : tie.Need-element-copy-out-head Inv-loop μ-loop
 element-copy-out-head c = search needs
@@ -117,8 +118,8 @@ index-2-hold-4 c = search needs
 hold-requires-2 : tie.Need-hold-requires-2 Inv-loop μ-loop
 hold-requires-2 c κs = search needs
 
-passed-requires : tie.Need-passed-requires Inv-loop μ-loop
-passed-requires c κs =
+until-requires : tie.Need-until-requires Inv-loop μ-loop
+until-requires c κs =
     let s = c .before .before .before .before .before .before .before .before .before .before .before .before .before .before in
     let i = c .before .before .before .before .before .before .before .before .before .loop .i in
     let below : i < session-in (now (c .before .before .before .before .before .before .before .before .before .before .before .before .before .before .args .session)) .count = omega (arith, count-is (now (c .before .before .before .before .before .before .before .before .before .before .before .before .before .before .args .session)), c .before .before .before .before .before .before .before .before .loop-test .taken) in
@@ -141,8 +142,8 @@ loop-again c =
     let holds = holds-at (now (c .before .before .before .before .before .before .before .before .before .before .before .before .before .before .before .args .session)) (at .i) (s .pre .full) (omega (arith, s .pre .few, below)) ∙ sym (λ j. record { up = c .before .before .before .before .hold .ensures j; down = c .before .hold2 .ensures j }) in
     let wait = hold-is (now (c .before .before .before .before .before .before .before .before .before .before .before .before .before .before .before .args .session)) ∙ ap seconds (sym (c .before .before .before .before .before .before .before .before .before .before .before .word3 .ensures)) in (
       omega (arith, below),
-      passed-turn (z .hold) (z .count) (z .lines) (at .i) (at .best) (c .passed .result) below (omega (arith, s .pre .few, s .pre .full))
-          (c .passed .ensures ∙ sym (λ j. passed (wait j) (at .i) (holds j) (at .best))) (at .inv .1),
+      until-turn (z .hold) (z .count) (z .lines) (at .i) (at .quiet) (c .until .result) below (omega (arith, s .pre .few, s .pre .full))
+          (c .until .ensures ∙ sym (λ j. until (at .quiet) (wait j) (holds j))) (at .inv .1),
       subst (λ (k : ℕ). Gathered (z .lines) (at .i + 1) (set (at .ids) (at .i) k)) (id-at (now (c .before .before .before .before .before .before .before .before .before .before .before .before .before .before .before .args .session)) (at .i) (s .pre .full) (omega (arith, s .pre .few, below)) ∙ sym (c .before .before .before .before .before .before .before .word4 .ensures))
           (gathered-turn (z .lines) (at .i) (at .ids) (omega (arith, s .pre .full, s .pre .few, below)) (omega (arith, s .pre .few, below)) (at .inv .2)),
     )
@@ -172,7 +173,7 @@ returns c =
     let clocked = clock-is (now (c .before .before .before .before .before .before .before .before .args .session)) ∙ ap seconds (sym (c .before .before .before .before .before .before .word .ensures)) in (
       c .screen .ensures ∙ ap (λ (js : List ℕ). screened js (seconds (c .before .before .before .before .before .word2 .result)) (seconds (c .before .before .before .before .before .before .word .result)) e) named
           ∙ sym (λ j. screened (ids (view z .lines)) (ended j) (clocked j) e),
-      passed-all (z .hold) (z .count) (z .lines) (at .i) (at .best) (omega (arith, s .pre .few, s .pre .full)) all (at .inv .1),
+      until-end (z .hold) (z .count) (z .lines) (at .i) (at .quiet) (omega (arith, s .pre .few, s .pre .full)) all (at .inv .1),
     )
 
 pub looked-spec : {M : Type 1} → statement M
@@ -210,7 +211,7 @@ looked-spec =
     index-1-hold-4
     index-2-hold-4
     hold-requires-2
-    passed-requires
+    until-requires
     add-i
     loop-less
     loop-again
