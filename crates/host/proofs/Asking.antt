@@ -1,11 +1,9 @@
--- The lines of a session in memory, one by one, and the answers of the questions. Assumes nothing.
-use mathlib.Core.Path.{_≡_, refl, sym, ap, _∙_}
+-- The line that was sought, and the answers of the questions from it. Assumes nothing.
+use mathlib.Core.Path.{_≡_, refl, sym, ap}
 use mathlib.Core.Bool.{Bool, true, false, cond}
-use mathlib.Core.List.{List, [], _∷_, map}
-use Prim.Native.Nat.{ℕ, zero, suc, _<_}
-use native.Mathlib.Omega.{arith}
-use lib.ListN.{length, getD, take, List·getD-map}
-use lib.Seq.{getD-take}
+use mathlib.Core.List.{List, [], _∷_}
+use Prim.Native.Nat.{ℕ}
+use lib.ListN.{getD}
 use lib.IntN.{ℤ, pos}
 use Rattle.method.specs.Types.{State, Steps, blank, demand}
 use Rattle.method.specs.Opening.{known}
@@ -15,41 +13,7 @@ use Rattle.corridor.specs.View.{view, Valid}
 use Rattle.corridor.proofs.Named.{Named, named-known, walk-line}
 use Rattle.host.specs.Names.{Limits, Line, Session, EventReason, LimitsAnswer, PlaceAnswer}
 use Rattle.host.specs.declared.questions.Sought.{Sought}
-use Rattle.host.specs.Packed.{at, word-in, hold-in, line-in, no-row, head-of, session-in}
 use Rattle.host.specs.Told.{sought, told-into}
-
--- what is read within a list does not hang on what would stand past its end
-within : {A : Type 0} (xs : List A) (i : ℕ) (d e : A) → i < length xs → getD xs i d ≡ getD xs i e
-within [] i d e h = absurd (never i h)
-  where
-    never : (n : ℕ) → n < 0 → ⊥
-    never n h = omega arith
-within (x ∷ xs) zero d e h = refl
-within (x ∷ xs) (suc i) d e h = within xs i d e (omega arith)
-
-pub count-is : (rows : List (List ℕ)) → at (head-of rows) 0 ≡ session-in rows .count
-unfolding session-in
-count-is rows = refl
-
-pub line-at : (rows : List (List ℕ)) (i : ℕ) → length (session-in rows .lines) ≡ 32 → i < 32 → getD (session-in rows .lines) i blank ≡ line-in (getD rows i no-row)
-unfolding session-in
-line-at rows i n h =
-    within (map line-in (take 32 rows)) i blank (line-in no-row) (omega (arith, n))
-    ∙ List·getD-map line-in (take 32 rows) i no-row ∙ ap line-in (getD-take 32 rows i no-row h)
-
--- of a row, only what a walk over all of them wants
-module _ (rows : List (List ℕ)) (i : ℕ) (n : length (session-in rows .lines) ≡ 32) (h : i < 32) where
-  pub id-at : getD (session-in rows .lines) i blank .terms .id ≡ word-in (at (getD rows i no-row) 0)
-  unfolding line-in
-  id-at = ap (λ (l : Line). l .terms .id) (line-at rows i n h)
-
-  pub holds-at : getD (session-in rows .lines) i blank .holds
-      ≡ record {
-        up = hold-in (at (getD rows i no-row) 17) (at (getD rows i no-row) 18);
-        down = hold-in (at (getD rows i no-row) 19) (at (getD rows i no-row) 20);
-      }
-  unfolding line-in
-  holds-at = ap (λ (l : Line). l .holds) (line-at rows i n h)
 
 pub sought-met : (s : Session) (id p : ℕ) → Valid s → Named id (view s .lines) p → Sought.At (getD (s .lines) p blank) ≡ sought id (view s)
 unfolding sought

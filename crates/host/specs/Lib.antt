@@ -1,3 +1,2 @@
 pub mod Names
-pub mod Packed
 pub mod Told

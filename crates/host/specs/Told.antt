@@ -5,7 +5,7 @@ use mathlib.Core.List.{List, map}
 use Prim.Native.Nat.{ℕ}
 use lib.Dec.{eqb}
 use lib.IntN.{ℤ, pos, negsuc}
-use lib.ListN.{set, take}
+use lib.ListN.{take}
 use Rattle.method.specs.Types.{State, demand}
 use Rattle.method.specs.Opening.{known}
 use Rattle.method.specs.Event.{line-of}
@@ -15,9 +15,9 @@ use Rattle.method.specs.declared.Row.the-variants as Row
 use Rattle.corridor.specs.declared.Reply.{Reply}
 use Rattle.corridor.specs.declared.RowsAnswer.{RowsAnswer}
 use Rattle.corridor.specs.Engine.{reply-to}
-use Rattle.host.specs.Names.{Seconds, Line, TableAnswer, PlaceAnswer, Session}
+use Rattle.host.specs.Names.{TableAnswer, PlaceAnswer, Session}
 use Rattle.host.specs.declared.questions.Sought.{Sought}
-use Rattle.host.specs.Packed.{session-in}
+use Rattle.packed.specs.Packed.{session-in}
 
 -- ---- a table
 -- the line of a refusal, 0 where the table is opened
@@ -38,14 +38,6 @@ shift-rows r = numbers-of (map Row.Shift (take (r .made) (r .shifts)))
 pub record Leaves (number : ℤ) (before after : List (List ℕ)) (s : Session) : Type 0 where
   pub session : session-in after ≡ s
   pub untouched : (number ≡ pos 0 → ⊥) → after ≡ before
-
--- a session with another line at a place, and with another clock
-abbrev pub with-line : Session → ℕ → Line → Session
-with-line s p l =
-    record { lines = set (s .lines) p l; count = s .count; clock = s .clock; end = s .end; hold = s .hold; left = s .left; near = s .near }
-
-abbrev pub with-clock : Session → Seconds → Session
-with-clock s t = record { lines = s .lines; count = s .count; clock = t; end = s .end; hold = s .hold; left = s .left; near = s .near }
 
 -- ---- questions
 -- the line of an id

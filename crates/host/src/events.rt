@@ -15,10 +15,8 @@ ghost use Rattle.corridor.specs.View.{view, Valid};
 ghost use Rattle.corridor.specs.Quiet.{quiet-until};
 ghost use Rattle.corridor.specs.Feeding.{fed, fed-into};
 ghost use Rattle.corridor.specs.Closing.{closed, closed-into};
-ghost use Rattle.host.specs.Packed.{at, word-in, session-in};
-ghost use Rattle.host.specs.Told.{reply-in, shift-rows, Leaves, with-line, with-clock, number-in};
-use crate::memory;
-use crate::packed;
+ghost use Rattle.packed.specs.Packed.{session-in, with-line};
+ghost use Rattle.host.specs.Told.{reply-in, shift-rows, Leaves, number-in};
 use corridor::RowsAnswer;
 use method::Event;
 use method::EventAnswer;
@@ -27,6 +25,8 @@ use method::Quote;
 use method::Row;
 use numbers::Millionths;
 use numbers::Seconds;
+use packed::memory;
+use packed::reading;
 use verdict::Change;
 use verdict::Verdict;
 
@@ -76,15 +76,15 @@ fn looked(session: &[[u64; 21]; 33], e: Event) -> Seen
 {
     let head = session[32];
     let n = head[0] as usize;
-    let clock = Seconds(packed::word(head[1]));
-    let end = Seconds(packed::word(head[2]));
-    let wait = Seconds(packed::word(head[3]));
+    let clock = Seconds(reading::word(head[1]));
+    let end = Seconds(reading::word(head[2]));
+    let wait = Seconds(reading::word(head[3]));
     let mut ids: [u32; 32] = [0; 32];
     let mut quiet = Seconds(4294967295);
     for i in 0..n {
-        ids[i] = packed::word(session[i][0]);
-        let up = packed::hold(session[i][17], session[i][18]);
-        let down = packed::hold(session[i][19], session[i][20]);
+        ids[i] = reading::word(session[i][0]);
+        let up = reading::hold(session[i][17], session[i][18]);
+        let down = reading::hold(session[i][19], session[i][20]);
         quiet = due::until(quiet, wait, Holds { up: up, down: down });
     }
     let verdict = verdict::screen(&ids[..n], 0, end, clock, e);
@@ -102,31 +102,12 @@ fn quoted(session: &mut [[u64; 21]; 33], place: usize, q: Quote)
         (quoted-line (session-in (now (session .entry)) .near) (session-in (now (session .entry)) .left) q
         (getD (session-in (now (session .entry)) .lines) place blank)) ⌝ }
 {
-    memory::rows(session);
     let head = session[32];
-    let near = Millionths(packed::word(head[5]));
+    let near = Millionths(reading::word(head[5]));
     let row = session[place];
-    let l = packed::line(row);
-    let m = holds::shift::quoted_line(near, packed::word(head[4]), q, l);
-    session[place] = packed::row(m);
-}
-
-// The last row with another clock.
-fn with_time(head: [u64; 21], t: u32) -> [u64; 21]
-    ensures { λ r. ⌜ (at r 0 ≡ at head 0) × (word-in (at r 1) ≡ t) × (at r 2 ≡ at head 2) × (at r 3 ≡ at head 3)
-        × (at r 4 ≡ at head 4) × (at r 5 ≡ at head 5) ⌝ }
-{
-    let mut row = head;
-    row[1] = packed::word_number(t);
-    row
-}
-
-fn clocked(session: &mut [[u64; 21]; 33], t: Seconds)
-    ensures { λ _. ⌜ session-in (now (session .exit)) ≡ with-clock (session-in (now (session .entry))) t ⌝ }
-{
-    memory::rows(session);
-    let head = session[32];
-    session[32] = with_time(head, t.0);
+    let l = reading::line(row);
+    let m = holds::shift::quoted_line(near, reading::word(head[4]), q, l);
+    memory::with_line(session, place, m);
 }
 
 // One event, where the session lies. Only where a hold falls due by its second is the session taken out of the memory.
@@ -166,7 +147,7 @@ pub extern "C" fn sundewcup_event(
                     quoted(session, p.place, q);
                 }
             }
-            clocked(session, t);
+            memory::with_clock(session, t);
             0
         }
     }

@@ -6,14 +6,13 @@ ghost use lib.IntN.{pos};
 ghost use Rattle.method.specs.Refusals.{table-said};
 ghost use Rattle.method.specs.Table.{opening};
 ghost use Rattle.corridor.specs.View.{opened-session};
-ghost use Rattle.host.specs.Packed.{session-in};
+ghost use Rattle.packed.specs.Packed.{session-in};
 ghost use Rattle.host.specs.Told.{line-said};
 use method::Row;
 use method::TableAnswer;
+use packed::memory;
 
 pub mod events;
-pub mod memory;
-pub mod packed;
 pub mod questions;
 
 // Opens a session. Beside a refusal stands one in which no contract is known, so that the memory has a sound session in any case.
@@ -45,5 +44,5 @@ pub extern "C" fn sundewcup_open(session: &mut [[u64; 21]; 33], table: &[u8], li
 pub extern "C" fn sundewcup_session_numbers() -> usize
     ensures { λ r. ⌜ r ≡ 693 ⌝ }
 {
-    33 * 21
+    memory::numbers()
 }

@@ -7,14 +7,14 @@ ghost use Rattle.method.specs.Types.{steps};
 ghost use Rattle.method.specs.Event.{limits, place};
 ghost use Rattle.method.specs.Refusals.{limits-said};
 ghost use Rattle.corridor.specs.View.{view, Valid};
-ghost use Rattle.host.specs.Packed.{session-in};
+ghost use Rattle.packed.specs.Packed.{session-in};
 ghost use Rattle.host.specs.Told.{sought, told-into, place-number};
-use crate::packed;
 use method::EventReason;
 use method::Line;
 use method::PlaceAnswer;
 use method::Row;
 use numbers::Steps;
+use packed::reading;
 
 pub enum Sought {
     At(Line),
@@ -31,7 +31,7 @@ fn found(session: &[[u64; 21]; 33], id: u32) -> Sought
     let mut i: usize = 0;
     while i < n {
         let row = session[i];
-        let l = packed::line(row);
+        let l = reading::line(row);
         if l.terms.id == id {
             return Sought::At(l);
         }

@@ -19,9 +19,8 @@ use Rattle.corridor.proofs.Due.{row-passes}
 use Rattle.corridor.proofs.Quiet.{Until, until-turn, until-end}
 use Rattle.corridor.proofs.Gathered.{Gathered, gathered-none, gathered-turn, gathered-all}
 use Rattle.host.specs.Names.{Holds}
-use Rattle.host.specs.Packed.{session-in}
-use Rattle.host.proofs.Asking.{count-is, id-at, holds-at}
-use Rattle.host.proofs.Places.{clock-is, end-is, hold-is}
+use Rattle.packed.specs.Packed.{session-in}
+use Rattle.packed.proofs.Places.{count-is, clock-is, end-is, hold-is, id-at, holds-at}
 use Rattle.host.proofs.events.looked.Statement.{statement}
 use Rattle.host.proofs.events.looked.Tie as tie
 

@@ -1,19 +1,16 @@
 -- `host::events::quoted` meets its contract. Assumes nothing.
 use borrow.Author.Needs.{needs}
-use mathlib.Core.Path.{sym, ap, subst, _∙_}
+use mathlib.Core.Path.{_≡_, sym, ap, subst, _∙_}
 use denote.Ref.{now}
-use Rattle.method.specs.Types.{millionths}
+use lib.ListN.{getD}
+use Rattle.method.specs.Types.{blank, millionths}
 use Rattle.method.specs.Event.{with-book, quoted-line}
 use Rattle.pressure.specs.Asks.{Pressed}
-use Rattle.host.specs.Names.{Millionths, Line}
-use Rattle.host.specs.Packed.{session-in}
-use Rattle.host.proofs.Asking.{line-at}
-use Rattle.host.proofs.Places.{left-is, near-is, line-stored}
+use Rattle.host.specs.Names.{Millionths, Line, Session}
+use Rattle.packed.specs.Packed.{session-in, with-line}
+use Rattle.packed.proofs.Places.{left-is, near-is, line-at}
 use Rattle.host.proofs.events.quoted.Statement.{statement}
 use Rattle.host.proofs.events.quoted.Tie as tie
-
-rows-requires : tie.Need-rows-requires
-rows-requires c κs = search needs
 
 element-copy-out-head : tie.Need-element-copy-out-head
 element-copy-out-head c = search needs
@@ -39,39 +36,43 @@ array-read-word-2 c = search needs
 word-requires-2 : tie.Need-word-requires-2
 word-requires-2 c κs = search needs
 
+-- what is read of the memory
+module _ (c : tie.After-word2) where
+  abbrev start : tie.Start
+  start = c .before .before .before .before .before
+
+  abbrev entry : Session
+  entry = session-in (now (start .args .session))
+
+  near-read : entry .near ≡ millionths (c .before .before .before .word .result)
+  near-read = near-is (now (start .args .session)) ∙ ap millionths (sym (c .before .before .before .word .ensures))
+
+  left-read : entry .left ≡ c .word2 .result
+  left-read = left-is (now (start .args .session)) ∙ sym (c .word2 .ensures)
+
+  line-read : getD (entry .lines) (start .args .place) blank ≡ c .before .line .result
+  line-read = line-at (now (start .args .session)) (start .args .place) (start .pre .1 .full) (start .pre .0) ∙ sym (c .before .line .ensures)
+
 quoted-line-requires : tie.Need-quoted-line-requires
 quoted-line-requires c κs =
-    let s = c .before .before .before .before .before .before .before in
-    let q = s .args .q in
-    let near = near-is (now (c .before .before .before .before .before .before .before .args .session)) ∙ ap millionths (sym (c .before .before .before .word .ensures)) in
-    let line = line-at (now (c .before .before .before .before .before .before .before .args .session)) (s .args .place) (s .pre .1 .full) (s .pre .0) ∙ sym (c .before .line .ensures) in
-    subst (λ (z : Millionths). Pressed z (with-book (c .before .line .result) (q .bid) (q .ask))) near
-    (subst (λ (l : Line). Pressed (session-in (now (c .before .before .before .before .before .before .before .args .session)) .near) (with-book l (q .bid) (q .ask))) line (s .pre .2))
+    let q = start c .args .q in
+    subst (λ (z : Millionths). Pressed z (with-book (c .before .line .result) (q .bid) (q .ask))) (near-read c)
+    (subst (λ (l : Line). Pressed (entry c .near) (with-book l (q .bid) (q .ask))) (line-read c) (start c .pre .2))
 
-row-requires : tie.Need-row-requires
-row-requires c κs = search needs
-
-mul-t9 : tie.Need-mul-t9
-mul-t9 c = search needs
-
-element-set-from-session : tie.Need-element-set-from-session
-element-set-from-session c = search needs
+with-line-requires : tie.Need-with-line-requires
+with-line-requires c κs = search needs
 
 returns : tie.Need-returns
 returns c =
-    let s = c .before .before .before .before .before .before .before .before .before in
-    let q = s .args .q in
-    let near = near-is (now (c .before .before .before .before .before .before .before .before .before .args .session)) ∙ ap millionths (sym (c .before .before .before .before .before .word .ensures)) in
-    let left = left-is (now (c .before .before .before .before .before .before .before .before .before .args .session)) ∙ sym (c .before .before .word2 .ensures) in
-    let line = line-at (now (c .before .before .before .before .before .before .before .before .before .args .session)) (s .args .place) (s .pre .1 .full) (s .pre .0) ∙ sym (c .before .before .before .line .ensures) in
-    line-stored (now (c .before .before .before .before .before .before .before .before .before .args .session)) (s .args .place) _ _ (s .pre .0)
-    (c .row2 .ensures ∙ c .before .quoted-line .ensures ∙ sym (λ j. quoted-line (near j) (left j) q (line j)))
+    let w = c .before .before .before in
+    c .with-line .ensures
+    ∙ ap (with-line (entry w) (start w .args .place))
+    (c .before .before .quoted-line .ensures ∙ sym (λ j. quoted-line (near-read w j) (left-read w j) (start w .args .q) (line-read w j)))
 
 pub quoted-spec : {M : Type 1} → statement M
 quoted-spec =
     tie.close
     (tie.spec
-    rows-requires
     element-copy-out-head
     array-read-word
     word-requires
@@ -81,7 +82,5 @@ quoted-spec =
     array-read-word-2
     word-requires-2
     quoted-line-requires
-    row-requires
-    mul-t9
-    element-set-from-session
+    with-line-requires
     returns)

@@ -15,7 +15,7 @@ use Rattle.corridor.specs.View.{view}
 use Rattle.corridor.proofs.Saying.{Changes, Says, Takes, session-says}
 use Rattle.corridor.proofs.Events.{refused-is, handed}
 use Rattle.host.specs.Names.{Session}
-use Rattle.host.specs.Packed.{session-in}
+use Rattle.packed.specs.Packed.{session-in}
 use Rattle.host.specs.Told.{reply-in, shift-rows}
 use Rattle.host.proofs.Replies.{event-told, event-taken}
 use Rattle.host.proofs.Turns.{nothing-due, unserved, quote-goes, reply-quiet}
@@ -88,8 +88,8 @@ quoted-requires c κs =
     quote-goes (given (walked at)) (start (walked at) .pre) (taken at .time) (idle at) (bytes (walked at)) (p .quote) (p .place)
     (subst (Changes (view (given (walked at))) (read (bytes (walked at)))) (c .before .before .before .change .given .1) (takes at .changes))
 
-clocked-requires : tie.Need-clocked-requires
-clocked-requires c κs = search needs
+with-clock-requires : tie.Need-with-clock-requires
+with-clock-requires c κs = search needs
 
 returns : tie.Need-returns
 returns c = search needs
@@ -119,7 +119,7 @@ returns-3 c =
         ap (λ (y : Reply). y .made) e,
         (
           ap (λ (y : Reply). written (now (start (walked at) .args .out)) 0 (shift-rows y)) e,
-          record { session = c .clocked .ensures ∙ ap (λ (y : Reply). y .session) e; untouched = λ no-zero. absurd (no-zero refl) },
+          record { session = c .with-clock .ensures ∙ ap (λ (y : Reply). y .session) e; untouched = λ no-zero. absurd (no-zero refl) },
         ),
       ),
     )
@@ -139,6 +139,6 @@ sundewcup-event-spec =
     enum-told
     enum-known-change
     quoted-requires
-    clocked-requires
+    with-clock-requires
     returns-2
     returns-3)

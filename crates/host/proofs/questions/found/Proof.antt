@@ -11,8 +11,9 @@ use native.Mathlib.Omega.{arith}
 use denote.Ref.{now}
 use Rattle.corridor.proofs.Named.{Walk, walk-start, walk-met, walk-turn, walk-all}
 use Rattle.host.specs.declared.questions.Sought.{Sought}
-use Rattle.host.specs.Packed.{session-in}
-use Rattle.host.proofs.Asking.{count-is, line-at, sought-met, sought-unmet}
+use Rattle.packed.specs.Packed.{session-in}
+use Rattle.packed.proofs.Places.{count-is, line-at}
+use Rattle.host.proofs.Asking.{sought-met, sought-unmet}
 use Rattle.host.proofs.questions.found.Statement.{statement}
 use Rattle.host.proofs.questions.found.Tie as tie
 

@@ -5,7 +5,7 @@ use denote.Ref.{now}
 use Rattle.method.specs.Event.{limits}
 use Rattle.corridor.specs.View.{view}
 use Rattle.host.specs.declared.questions.Sought.{Sought}
-use Rattle.host.specs.Packed.{session-in}
+use Rattle.packed.specs.Packed.{session-in}
 use Rattle.host.proofs.Asking.{limits-by, limits-none, limits-some}
 use Rattle.host.proofs.questions.sundewcup_limits.Statement.{statement}
 use Rattle.host.proofs.questions.sundewcup_limits.Tie as tie

@@ -8,7 +8,7 @@ use Rattle.method.specs.Types.{steps}
 use Rattle.method.specs.Event.{placed}
 use Rattle.corridor.specs.View.{view}
 use Rattle.host.specs.declared.questions.Sought.{Sought}
-use Rattle.host.specs.Packed.{session-in}
+use Rattle.packed.specs.Packed.{session-in}
 use Rattle.host.specs.Told.{place-number}
 use Rattle.host.proofs.Asking.{place-by}
 use Rattle.host.proofs.questions.sundewcup_place.Statement.{statement}
