@@ -1,0 +1,4 @@
+pub mod Deciding
+pub mod Records
+pub mod Ids
+pub mod Whole

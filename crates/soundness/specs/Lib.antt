@@ -1,0 +1,4 @@
+pub mod Names
+pub mod Decides
+pub mod Beside
+pub mod Without

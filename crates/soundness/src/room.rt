@@ -1,0 +1,188 @@
+// The ranges of one line, record by record. A bound is worked out only from numbers that were found in range, so that nothing overflows.
+
+ghost use mathlib.Core.Path.{_≡_};
+ghost use Prim.Native.Nat.{_≤_};
+ghost use lib.IntN.{pos, negℤ};
+ghost use Rattle.method.specs.Ranges.{FactorsIn, TermsIn, reach, MarketRoom, Floor, LimitsRoom, PriceIn, BookIn, HoldIn, HoldsIn, Room};
+ghost use Rattle.bounds.specs.Asks.{Drawn};
+ghost use Rattle.soundness.specs.Decides.{Decides};
+use method::Book;
+use method::Hold;
+use method::Holds;
+use method::Limits;
+use method::Line;
+use method::Market;
+use method::Price;
+use method::Side;
+use method::Terms;
+use numbers::Steps;
+
+fn factors(t: Terms) -> bool
+    ensures { λ r. ⌜ Decides r (FactorsIn t) ⌝ }
+{
+    let f = t.factors;
+    if f.up.0 < 1000000000 {
+        return false;
+    }
+    if 1650000000 < f.up.0 {
+        return false;
+    }
+    if f.down.0 < 606000000 {
+        return false;
+    }
+    if 1000000000 < f.down.0 {
+        return false;
+    }
+    true
+}
+
+fn terms(t: Terms) -> bool
+    ensures { λ r. ⌜ Decides r (TermsIn t) ⌝ }
+{
+    if t.id == 0 {
+        return false;
+    }
+    if 4 <= t.flags {
+        return false;
+    }
+    let halfmove = t.halfmove;
+    if !numbers::between(Steps(1), Steps(50000000), halfmove) {
+        return false;
+    }
+    factors(t)
+}
+
+// How far a centre and a half-width reach while so many shifts are left.
+fn reach(left: u32) -> Steps
+    requires { ⌜ left ≤ 16 ⌝ }
+    ensures { λ r. ⌜ r .0 ≡ pos (reach left) ⌝ }
+{
+    Steps(((900000000 - 50000000 * left) as u64) as i64)
+}
+
+// The least centre of that reach.
+fn least(left: u32) -> Steps
+    requires { ⌜ left ≤ 16 ⌝ }
+    ensures { λ r. ⌜ r .0 ≡ negℤ (pos (reach left)) ⌝ }
+{
+    let most = reach(left);
+    Steps(0 - most.0)
+}
+
+fn market(left: u32, m: Market) -> bool
+    requires { ⌜ left ≤ 16 ⌝ }
+    ensures { λ r. ⌜ Decides r (MarketRoom left m) ⌝ }
+{
+    let most = reach(left);
+    let centre = m.centre;
+    let half1 = m.half1;
+    let half2 = m.half2;
+    let half3 = m.half3;
+    if !numbers::between(least(left), most, centre) {
+        return false;
+    }
+    if !numbers::between(Steps(1), most, half1) {
+        return false;
+    }
+    if !numbers::between(Steps(1), most, half2) {
+        return false;
+    }
+    numbers::between(Steps(1), most, half3)
+}
+
+// Where negative prices are not permitted nothing stands below one step, and what is frozen stands there.
+fn floor(k: Limits, flags: u32) -> bool
+    ensures { λ r. ⌜ Decides r (Floor k flags) ⌝ }
+{
+    if wire::bit_0(flags) {
+        return !k.frozen;
+    }
+    if k.lower.0 < 1 {
+        return false;
+    }
+    if 1 < k.lower.0 {
+        return !k.frozen;
+    }
+    true
+}
+
+// Both limits between the interest bounds, and in their order.
+fn limits(t: Terms, m: Market, k: Limits) -> bool
+    requires { ⌜ Drawn t m ⌝ }
+    ensures { λ r. ⌜ Decides r (LimitsRoom t m k) ⌝ }
+{
+    let upper = k.upper;
+    let lower = k.lower;
+    if !numbers::between(bounds::bound(Side::Down, t, m), upper, lower) {
+        return false;
+    }
+    if !numbers::between(lower, bounds::bound(Side::Up, t, m), upper) {
+        return false;
+    }
+    floor(k, t.flags)
+}
+
+fn price(p: Price) -> bool
+    ensures { λ r. ⌜ Decides r (PriceIn p) ⌝ }
+{
+    match p {
+        Price::Absent => true,
+        Price::Given(z) => numbers::between(Steps(-2000000000), Steps(2000000000), z),
+    }
+}
+
+fn book(b: Book) -> bool
+    ensures { λ r. ⌜ Decides r (BookIn b) ⌝ }
+{
+    let bid = b.bid;
+    let ask = b.ask;
+    if !price(bid) {
+        return false;
+    }
+    price(ask)
+}
+
+fn hold(h: Hold) -> bool
+    ensures { λ r. ⌜ Decides r (HoldIn h) ⌝ }
+{
+    match h {
+        Hold::Idle => true,
+        Hold::Since(start) => start.0 <= 172800,
+    }
+}
+
+fn holds(h: Holds) -> bool
+    ensures { λ r. ⌜ Decides r (HoldsIn h) ⌝ }
+{
+    let up = h.up;
+    let down = h.down;
+    if !hold(up) {
+        return false;
+    }
+    hold(down)
+}
+
+// All five records of a line.
+pub fn room(left: u32, l: Line) -> bool
+    requires { ⌜ left ≤ 16 ⌝ }
+    ensures { λ r. ⌜ Decides r (Room left l) ⌝ }
+{
+    let t = l.terms;
+    let m = l.market;
+    let k = l.limits;
+    let b = l.book;
+    let h = l.holds;
+    if !terms(t) {
+        return false;
+    }
+    if !market(left, m) {
+        return false;
+    }
+    if !limits(t, m, k) {
+        return false;
+    }
+    if !book(b) {
+        return false;
+    }
+    holds(h)
+}
