@@ -28,7 +28,7 @@ fn size(rows: &[[u64; 21]]) -> usize
 }
 
 // How many rows there are. The type says it to the machine; a proof is told by this.
-fn rows(memory: &[[u64; 21]; 33]) -> usize
+pub fn rows(memory: &[[u64; 21]; 33]) -> usize
     ensures { λ r. ⌜ (r ≡ 33) × (length (now (memory .entry)) ≡ 33) ⌝ }
 {
     size(memory)

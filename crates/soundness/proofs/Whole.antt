@@ -49,7 +49,7 @@ next-is : (t : Seconds) (s : State) → next-due t s ≡ due-by t s
 unfolding next-due
 next-is t s = refl
 
-nothing-at : {x : Due} → Nothing ≡ At x → ⊥
+pub nothing-at : {x : Due} → Nothing ≡ At x → ⊥
 nothing-at e = let z : _≡_ {A = ℕ} 0 1 = cc in omega arith
 
 found-done : (t : Seconds) (s : State) (d : Found) → FoundIn t s d → d ≡ Nothing → Done t s

@@ -1,0 +1,49 @@
+-- The tests together say what every session has. Assumes nothing.
+use mathlib.Core.Path.{_≡_, subst, _∙_}
+use mathlib.Core.List.{List}
+use Prim.Native.Nat.{ℕ}
+use native.Mathlib.Omega.{arith}
+use lib.ListN.{length, take, length-map}
+use lib.Seq.{length-take-le}
+use Rattle.numbers.specs.declared.Millionths.{Millionths}
+use Rattle.method.specs.Opening.{ids}
+use Rattle.method.specs.Ranges.{Room}
+use Rattle.method.specs.Sound.{Exact, Distinct}
+use Rattle.method.specs.declared.Line.{Line}
+use Rattle.method.specs.declared.Found.the-variants.{Nothing}
+use Rattle.soundness.proofs.Whole.{Parts, rows-all, all-rows, parts-sane, parts-sound, parts-of}
+use Rattle.corridor.specs.declared.Session.{Session}
+use Rattle.corridor.specs.View.{view, Valid}
+use Rattle.packed.specs.Packed.{line-in, session-in}
+use Rattle.intact.specs.Tests.{BesideIn, LinesIn, due-by}
+
+pub full-in : (rows : List (List ℕ)) → length rows ≡ 33 → length (session-in rows .lines) ≡ 32
+unfolding session-in
+full-in rows h = length-map (take 32 rows) line-in ∙ length-take-le 32 rows (omega arith)
+
+-- what is decided of a line
+abbrev pub Fit : Millionths → ℕ → Line → Type 0
+Fit near left l = Room left l × Exact near left l
+
+pub carried : {near near′ : Millionths} {left left′ : ℕ} {l l′ : Line} → near ≡ near′ → left ≡ left′ → l ≡ l′ → Fit near left l → Fit near′ left′ l′
+carried {near} {near′} {left} {left′} {l} {l′} e f g p =
+    subst (λ (x : ℕ). Fit near′ x l′) f (subst (λ (x : Millionths). Fit x left l′) e (subst (Fit near left) g p))
+
+module _ {s : Session} where
+  pub valid-so : length (s .lines) ≡ 32 → BesideIn s → LinesIn s → Distinct (ids (view s .lines)) × (due-by (view s) ≡ Nothing) → Valid s
+  valid-so full b lines (distinct, none) =
+      let all = rows-all (s .near) (s .left) (s .lines) (s .count) (omega (arith, b .few)) lines in
+      let p : Parts (s .count) (view s) = record { beside = b; rooms = all .0; exact = all .1; none-due = none } in
+      record { full = full; few = b .few; sane = parts-sane p; sound = parts-sound p; distinct = distinct }
+
+  parts : Valid s → Parts (s .count) (view s)
+  parts v = parts-of (v .few) (v .sane) (v .sound)
+
+  pub valid-beside : Valid s → BesideIn s
+  valid-beside v = parts v .beside
+
+  pub valid-lines : Valid s → LinesIn s
+  valid-lines v = all-rows (s .near) (s .left) (s .lines) (s .count) (omega (arith, v .few, v .full)) (parts v .rooms) (parts v .exact)
+
+  pub valid-together : Valid s → Distinct (ids (view s .lines)) × (due-by (view s) ≡ Nothing)
+  valid-together v = (v .distinct, parts v .none-due)
