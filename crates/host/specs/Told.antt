@@ -14,10 +14,24 @@ use Rattle.method.specs.Program.{numbers-of}
 use Rattle.method.specs.declared.Row.the-variants as Row
 use Rattle.corridor.specs.declared.Reply.{Reply}
 use Rattle.corridor.specs.declared.RowsAnswer.{RowsAnswer}
+use Rattle.corridor.specs.View.{Valid}
 use Rattle.corridor.specs.Engine.{reply-to}
 use Rattle.host.specs.Names.{TableAnswer, PlaceAnswer, Session}
 use Rattle.host.specs.declared.questions.Sought.{Sought}
 use Rattle.packed.specs.Packed.{session-in}
+
+-- ---- memory that the host may have damaged
+-- no refusal of the method has this number
+abbrev pub damaged : ℤ
+damaged = pos 99
+
+-- where rows are counted: more than any buffer has
+abbrev pub damaged-count : ℕ
+damaged-count = 18_446_744_073_709_551_615
+
+-- What is told of memory with a sound session, and what of any other.
+abbrev pub Tells : List (List ℕ) → Type 0 → Type 0 → Type 0
+Tells rows sound broken = (Valid (session-in rows) → sound) × ((Valid (session-in rows) → ⊥) → broken)
 
 -- ---- a table
 -- the line of a refusal, 0 where the table is opened

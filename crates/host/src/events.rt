@@ -112,7 +112,7 @@ fn quoted(session: &mut [[u64; 21]; 33], place: usize, q: Quote)
 
 // One event, where the session lies. Only where a hold falls due by its second is the session taken out of the memory.
 #[no_mangle]
-pub extern "C" fn sundewcup_event(
+pub extern "C" fn sundewcup_event_unchecked(
     session: &mut [[u64; 21]; 33],
     bytes: &[u8],
     out: &mut [i64; 96],
@@ -163,12 +163,7 @@ fn number_in(answer: RowsAnswer) -> usize
 }
 
 // A buffer of events. Where the room is not there, nothing is done.
-#[no_mangle]
-pub extern "C" fn sundewcup_feed(
-    session: &mut [[u64; 21]; 33],
-    events: &[u8],
-    out: &mut [i64],
-) -> usize
+pub(crate) fn feed(session: &mut [[u64; 21]; 33], events: &[u8], out: &mut [i64]) -> usize
     requires { ⌜ Valid (session-in (now session)) ⌝ }
     ensures { λ r. ⌜ r ≡ number-in (fed (session-in (now (session .entry))) (length (now (out .entry))) (now (events .entry)) .answer) ⌝ }
     ensures { λ _. ⌜ now (out .exit) ≡ fed-into (session-in (now (session .entry))) (now (out .entry)) (now (events .entry)) ⌝ }
@@ -184,8 +179,7 @@ pub extern "C" fn sundewcup_feed(
 }
 
 // The closing rows. Where the room is not there, nothing is written.
-#[no_mangle]
-pub extern "C" fn sundewcup_close(session: &[[u64; 21]; 33], out: &mut [i64]) -> usize
+pub(crate) fn close(session: &[[u64; 21]; 33], out: &mut [i64]) -> usize
     requires { ⌜ Valid (session-in (now session)) ⌝ }
     ensures { λ r. ⌜ r ≡ number-in (closed (session-in (now (session .entry))) (length (now (out .entry)))) ⌝ }
     ensures { λ _. ⌜ now (out .exit) ≡ closed-into (session-in (now (session .entry))) (now (out .entry)) ⌝ }

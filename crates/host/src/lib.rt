@@ -12,6 +12,7 @@ use method::Row;
 use method::TableAnswer;
 use packed::memory;
 
+pub mod entry;
 pub mod events;
 pub mod questions;
 

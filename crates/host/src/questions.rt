@@ -47,8 +47,7 @@ fn mark_number(b: bool) -> i64
 }
 
 // The lower and the upper limit, and whether the lower one is frozen.
-#[no_mangle]
-pub extern "C" fn sundewcup_limits(session: &[[u64; 21]; 33], id: u32, out: &mut [i64; 3]) -> i64
+pub(crate) fn limits(session: &[[u64; 21]; 33], id: u32, out: &mut [i64; 3]) -> i64
     requires { ⌜ Valid (session-in (now session)) ⌝ }
     ensures { λ r. ⌜ r ≡ pos (limits-said (limits id (view (session-in (now (session .entry))))) .number) ⌝ }
     ensures { λ _. ⌜ now (out .exit) ≡ told-into (now (out .entry)) (limits-said (limits id (view (session-in (now (session .entry)))))) ⌝ }
@@ -79,7 +78,7 @@ fn place_number(answer: PlaceAnswer) -> i64
 
 // Where an order price lies: below -1, inside 0, above 1; or the refusal's number.
 #[no_mangle]
-pub extern "C" fn sundewcup_place(session: &[[u64; 21]; 33], id: u32, price: i64) -> i64
+pub extern "C" fn sundewcup_place_unchecked(session: &[[u64; 21]; 33], id: u32, price: i64) -> i64
     requires { ⌜ Valid (session-in (now session)) ⌝ }
     ensures { λ r. ⌜ r ≡ place-number (place id (steps price) (view (session-in (now (session .entry))))) ⌝ }
 {

@@ -1,4 +1,4 @@
--- `host::events::sundewcup_feed` meets its contract. Assumes nothing.
+-- `host::events::feed` meets its contract. Assumes nothing.
 use denote.Ref.{now}
 use lib.ListN.{length}
 use borrow.Author.Needs.{needs}
@@ -8,8 +8,8 @@ use Rattle.corridor.specs.View.{Valid}
 use Rattle.corridor.specs.Feeding.{fed, fed-into}
 use Rattle.host.specs.Names.{Session}
 use Rattle.host.specs.Told.{number-in}
-use Rattle.host.proofs.events.sundewcup_feed.Statement.{statement}
-use Rattle.host.proofs.events.sundewcup_feed.Tie as tie
+use Rattle.host.proofs.events.feed.Statement.{statement}
+use Rattle.host.proofs.events.feed.Tie as tie
 
 taken-requires : tie.Need-taken-requires
 taken-requires c κs = search needs
@@ -39,7 +39,7 @@ returns c =
       ),
     )
 
-pub sundewcup-feed-spec : {M : Type 1} → statement M
-sundewcup-feed-spec =
+pub feed-spec : {M : Type 1} → statement M
+feed-spec =
     tie.close
     (tie.spec taken-requires feed-requires kept-requires number-in-requires same-length returns)

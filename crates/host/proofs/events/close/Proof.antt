@@ -1,4 +1,4 @@
--- `host::events::sundewcup_close` meets its contract. Assumes nothing.
+-- `host::events::close` meets its contract. Assumes nothing.
 use Rattle.corridor.specs.Closing.{closed, closed-into}
 use Rattle.host.specs.Names.{Session}
 use denote.Ref.{now}
@@ -7,8 +7,8 @@ use borrow.Author.Needs.{needs}
 use mathlib.Core.Path.{ap, subst, sym, _∙_}
 use Rattle.corridor.specs.View.{Valid}
 use Rattle.host.specs.Told.{number-in}
-use Rattle.host.proofs.events.sundewcup_close.Statement.{statement}
-use Rattle.host.proofs.events.sundewcup_close.Tie as tie
+use Rattle.host.proofs.events.close.Statement.{statement}
+use Rattle.host.proofs.events.close.Tie as tie
 
 taken-requires : tie.Need-taken-requires
 taken-requires c κs = search needs
@@ -31,6 +31,6 @@ returns c =
       f .1 ∙ ap (λ (s : Session). closed-into s out) t,
     )
 
-pub sundewcup-close-spec : {M : Type 1} → statement M
-sundewcup-close-spec =
+pub close-spec : {M : Type 1} → statement M
+close-spec =
     tie.close (tie.spec taken-requires close-requires number-in-requires same-length returns)

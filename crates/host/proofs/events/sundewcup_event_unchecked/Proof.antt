@@ -1,4 +1,4 @@
--- `host::events::sundewcup_event` meets its contract: any bytes of any length. Assumes nothing.
+-- `host::events::sundewcup_event_unchecked` meets its contract: any bytes of any length. Assumes nothing.
 use borrow.Author.Needs.{needs}
 use mathlib.Core.Path.{_≡_, refl, sym, ap, subst, _∙_}
 use mathlib.Core.List.{List, []}
@@ -19,8 +19,8 @@ use Rattle.packed.specs.Packed.{session-in}
 use Rattle.host.specs.Told.{reply-in, shift-rows}
 use Rattle.host.proofs.Replies.{event-told, event-taken}
 use Rattle.host.proofs.Turns.{nothing-due, unserved, quote-goes, reply-quiet}
-use Rattle.host.proofs.events.sundewcup_event.Statement.{statement}
-use Rattle.host.proofs.events.sundewcup_event.Tie as tie
+use Rattle.host.proofs.events.sundewcup_event_unchecked.Statement.{statement}
+use Rattle.host.proofs.events.sundewcup_event_unchecked.Tie as tie
 
 -- ---- the places that are gone back to, and what stood there
 abbrev start : tie.After-looked → tie.Start
@@ -124,8 +124,8 @@ returns-3 c =
       ),
     )
 
-pub sundewcup-event-spec : {M : Type 1} → statement M
-sundewcup-event-spec =
+pub sundewcup-event-unchecked-spec : {M : Type 1} → statement M
+sundewcup-event-unchecked-spec =
     tie.close
     (tie.spec
     read-requires

@@ -1,4 +1,4 @@
--- `host::questions::sundewcup_limits` meets its contract. Assumes nothing.
+-- `host::questions::limits` meets its contract. Assumes nothing.
 use borrow.Author.Needs.{needs}
 use mathlib.Core.Path.{sym, _∙_}
 use denote.Ref.{now}
@@ -7,8 +7,8 @@ use Rattle.corridor.specs.View.{view}
 use Rattle.host.specs.declared.questions.Sought.{Sought}
 use Rattle.packed.specs.Packed.{session-in}
 use Rattle.host.proofs.Asking.{limits-by, limits-none, limits-some}
-use Rattle.host.proofs.questions.sundewcup_limits.Statement.{statement}
-use Rattle.host.proofs.questions.sundewcup_limits.Tie as tie
+use Rattle.host.proofs.questions.limits.Statement.{statement}
+use Rattle.host.proofs.questions.limits.Tie as tie
 
 found-requires : tie.Need-found-requires
 found-requires c κs = search needs
@@ -34,7 +34,7 @@ returns-2 c =
     let told = limits-some (limits id (view (session-in (now (c .before .before .before .before .before .before .before .before .args .session))))) (l .0 .0 .limits) _ (now (c .before .before .before .before .before .before .before .before .args .out)) (limits-by (view (session-in (now (c .before .before .before .before .before .before .before .before .args .session)))) id (Sought.At (l .0 .0)) (sym (l .1) ∙ c .before .before .before .before .before .before .before .found .ensures)) (c .before .before .mark-number .ensures) in
     (told .0, (search needs) ∙ told .1)
 
-pub sundewcup-limits-spec : {M : Type 1} → statement M
-sundewcup-limits-spec =
+pub limits-spec : {M : Type 1} → statement M
+limits-spec =
     tie.close
     (tie.spec found-requires enum-told enum-known-l mark-number-requires returns returns-2)

@@ -1,4 +1,4 @@
--- `host::questions::sundewcup_place` meets its contract. Assumes nothing.
+-- `host::questions::sundewcup_place_unchecked` meets its contract. Assumes nothing.
 use borrow.Author.Needs.{needs}
 use mathlib.Core.Path.{sym, ap, _∙_}
 use denote.Ref.{now}
@@ -11,8 +11,8 @@ use Rattle.host.specs.declared.questions.Sought.{Sought}
 use Rattle.packed.specs.Packed.{session-in}
 use Rattle.host.specs.Told.{place-number}
 use Rattle.host.proofs.Asking.{place-by}
-use Rattle.host.proofs.questions.sundewcup_place.Statement.{statement}
-use Rattle.host.proofs.questions.sundewcup_place.Tie as tie
+use Rattle.host.proofs.questions.sundewcup_place_unchecked.Statement.{statement}
+use Rattle.host.proofs.questions.sundewcup_place_unchecked.Tie as tie
 
 found-requires : tie.Need-found-requires
 found-requires c κs = search needs
@@ -46,8 +46,8 @@ returns-2 c =
     (c .before .placed .ensures ∙ ap (λ (z : ℤ). placed (l .0 .0 .limits) (steps z)) (toZ-ofZ (c .before .before .before .before .before .before .before .fits .price))
     ∙ sym (place-by (view (session-in (now (c .before .before .before .before .before .before .before .args .session)))) (c .before .before .before .before .before .before .before .args .id) (Sought.At (l .0 .0)) (sym (l .1) ∙ c .before .before .before .before .before .before .found .ensures) (steps price)))
 
-pub sundewcup-place-spec : {M : Type 1} → statement M
-sundewcup-place-spec =
+pub sundewcup-place-unchecked-spec : {M : Type 1} → statement M
+sundewcup-place-unchecked-spec =
     tie.close
     (tie.spec
     found-requires

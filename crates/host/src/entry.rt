@@ -1,0 +1,112 @@
+// What a host calls. The host may have damaged the session in its memory, so each function decides that first, and refuses such memory
+// with a number of its own; everything is then as it was.
+
+ghost use mathlib.Core.Path.{_≡_};
+ghost use lib.IntN.{pos};
+ghost use lib.ListN.{length};
+ghost use Rattle.method.specs.Types.{steps};
+ghost use Rattle.method.specs.Event.{limits, place};
+ghost use Rattle.method.specs.Refusals.{event-said, limits-said};
+ghost use Rattle.rows.specs.Buffer.{written};
+ghost use Rattle.corridor.specs.View.{view};
+ghost use Rattle.corridor.specs.Feeding.{fed, fed-into};
+ghost use Rattle.corridor.specs.Closing.{closed, closed-into};
+ghost use Rattle.packed.specs.Packed.{session-in};
+ghost use Rattle.host.specs.Told.{damaged, damaged-count, Tells, reply-in, shift-rows, Leaves, told-into, place-number, number-in};
+use crate::events;
+use crate::questions;
+
+// Whether the memory has a session: 0, or the number of a damaged one.
+#[no_mangle]
+pub extern "C" fn sundewcup_check(session: &[[u64; 21]; 33]) -> i64
+    ensures { λ r. ⌜ Tells (now (session .entry)) (r ≡ pos 0) (r ≡ damaged) ⌝ }
+{
+    if intact::sound(session) {
+        return 0;
+    }
+    99
+}
+
+#[no_mangle]
+pub extern "C" fn sundewcup_event(
+    session: &mut [[u64; 21]; 33],
+    bytes: &[u8],
+    out: &mut [i64; 96],
+    made: &mut usize,
+) -> i64
+    ensures { λ r. ⌜ Tells (now (session .entry))
+        (r ≡ pos (event-said (reply-in (now (session .entry)) (now (bytes .entry)) .answer) .number)) (r ≡ damaged) ⌝ }
+    ensures { λ _. ⌜ Tells (now (session .entry))
+        (now (made .exit) ≡ reply-in (now (session .entry)) (now (bytes .entry)) .made) (now (made .exit) ≡ 0) ⌝ }
+    ensures { λ _. ⌜ Tells (now (session .entry))
+        (now (out .exit) ≡ written (now (out .entry)) 0 (shift-rows (reply-in (now (session .entry)) (now (bytes .entry)))))
+        (now (out .exit) ≡ now (out .entry)) ⌝ }
+    ensures { λ r. ⌜ Tells (now (session .entry))
+        (Leaves r (now (session .entry)) (now (session .exit)) (reply-in (now (session .entry)) (now (bytes .entry)) .session))
+        (now (session .exit) ≡ now (session .entry)) ⌝ }
+{
+    if intact::sound(session) {
+        return events::sundewcup_event_unchecked(session, bytes, out, made);
+    }
+    *made = 0;
+    99
+}
+
+#[no_mangle]
+pub extern "C" fn sundewcup_feed(
+    session: &mut [[u64; 21]; 33],
+    events: &[u8],
+    out: &mut [i64],
+) -> usize
+    ensures { λ r. ⌜ Tells (now (session .entry))
+        (r ≡ number-in (fed (session-in (now (session .entry))) (length (now (out .entry))) (now (events .entry)) .answer)) (r ≡ damaged-count) ⌝ }
+    ensures { λ _. ⌜ Tells (now (session .entry))
+        (now (out .exit) ≡ fed-into (session-in (now (session .entry))) (now (out .entry)) (now (events .entry)))
+        (now (out .exit) ≡ now (out .entry)) ⌝ }
+    ensures { λ _. ⌜ Tells (now (session .entry))
+        (session-in (now (session .exit)) ≡ fed (session-in (now (session .entry))) (length (now (out .entry))) (now (events .entry)) .session)
+        (now (session .exit) ≡ now (session .entry)) ⌝ }
+{
+    if intact::sound(session) {
+        return events::feed(session, events, out);
+    }
+    18446744073709551615
+}
+
+#[no_mangle]
+pub extern "C" fn sundewcup_close(session: &[[u64; 21]; 33], out: &mut [i64]) -> usize
+    ensures { λ r. ⌜ Tells (now (session .entry))
+        (r ≡ number-in (closed (session-in (now (session .entry))) (length (now (out .entry))))) (r ≡ damaged-count) ⌝ }
+    ensures { λ _. ⌜ Tells (now (session .entry))
+        (now (out .exit) ≡ closed-into (session-in (now (session .entry))) (now (out .entry))) (now (out .exit) ≡ now (out .entry)) ⌝ }
+{
+    if intact::sound(session) {
+        return events::close(session, out);
+    }
+    18446744073709551615
+}
+
+#[no_mangle]
+pub extern "C" fn sundewcup_limits(session: &[[u64; 21]; 33], id: u32, out: &mut [i64; 3]) -> i64
+    ensures { λ r. ⌜ Tells (now (session .entry))
+        (r ≡ pos (limits-said (limits id (view (session-in (now (session .entry))))) .number)) (r ≡ damaged) ⌝ }
+    ensures { λ _. ⌜ Tells (now (session .entry))
+        (now (out .exit) ≡ told-into (now (out .entry)) (limits-said (limits id (view (session-in (now (session .entry)))))))
+        (now (out .exit) ≡ now (out .entry)) ⌝ }
+{
+    if intact::sound(session) {
+        return questions::limits(session, id, out);
+    }
+    99
+}
+
+#[no_mangle]
+pub extern "C" fn sundewcup_place(session: &[[u64; 21]; 33], id: u32, price: i64) -> i64
+    ensures { λ r. ⌜ Tells (now (session .entry))
+        (r ≡ place-number (place id (steps price) (view (session-in (now (session .entry)))))) (r ≡ damaged) ⌝ }
+{
+    if intact::sound(session) {
+        return questions::sundewcup_place_unchecked(session, id, price);
+    }
+    99
+}
