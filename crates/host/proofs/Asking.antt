@@ -24,11 +24,11 @@ unfolding sought
 sought-unmet s id h = rw h
 
 -- ---- a question's answer, from the line that was sought
-abbrev by-sought : {A : Type 0} → A → (Line → A) → Sought → A
+abbrev pub by-sought : {A : Type 0} → A → (Line → A) → Sought → A
 by-sought none some Sought.Nowhere = none
 by-sought none some (Sought.At l) = some l
 
-from-sought : {A : Type 0} (none : A) (some : Line → A) (b : Bool) (l : Line) (x : Sought) → x ≡ demand b Sought.Nowhere (Sought.At l) → demand b none (some l) ≡ by-sought none some x
+pub from-sought : {A : Type 0} (none : A) (some : Line → A) (b : Bool) (l : Line) (x : Sought) → x ≡ demand b Sought.Nowhere (Sought.At l) → demand b none (some l) ≡ by-sought none some x
 from-sought none some true l x e = ap (by-sought none some) (sym e)
 from-sought none some false l x e = ap (by-sought none some) (sym e)
 

@@ -1,3 +1,4 @@
 pub mod Replies
 pub mod Asking
+pub mod Reports
 pub mod Turns

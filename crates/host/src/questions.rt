@@ -1,18 +1,23 @@
 // Questions on one line, asked where the session lies: its limits, the place of an order price, and all that stands on it.
 
 ghost use mathlib.Core.Path.{_≡_};
-ghost use mathlib.Core.Bool.{cond};
+ghost use Prim.Native.Nat.{_≤_};
 ghost use lib.IntN.{pos};
 ghost use Rattle.method.specs.Types.{steps};
 ghost use Rattle.method.specs.Event.{limits, place};
-ghost use Rattle.method.specs.Refusals.{limits-said};
+ghost use Rattle.method.specs.Refusals.{limits-said, report-said};
+ghost use Rattle.method.specs.Report.{line-report, report};
+ghost use Rattle.method.specs.Ranges.{Room};
 ghost use Rattle.corridor.specs.View.{view, Valid};
 ghost use Rattle.packed.specs.Packed.{session-in};
-ghost use Rattle.host.specs.Told.{sought, told-into, place-number};
+ghost use Rattle.host.specs.Told.{sought, told-into, place-number, report-into};
+use crate::reporting;
 use method::EventReason;
 use method::Line;
 use method::PlaceAnswer;
+use method::Report;
 use method::Row;
+use numbers::Seconds;
 use numbers::Steps;
 use packed::reading;
 
@@ -40,12 +45,6 @@ fn found(session: &[[u64; 21]; 33], id: u32) -> Sought
     Sought::Nowhere
 }
 
-fn mark_number(b: bool) -> i64
-    ensures { λ r. ⌜ r ≡ cond b (pos 1) (pos 0) ⌝ }
-{
-    if b { 1 } else { 0 }
-}
-
 // The lower and the upper limit, and whether the lower one is frozen.
 pub(crate) fn limits(session: &[[u64; 21]; 33], id: u32, out: &mut [i64; 3]) -> i64
     requires { ⌜ Valid (session-in (now session)) ⌝ }
@@ -56,7 +55,7 @@ pub(crate) fn limits(session: &[[u64; 21]; 33], id: u32, out: &mut [i64; 3]) -> 
         Sought::Nowhere => 13,
         Sought::At(l) => {
             let k = l.limits;
-            *out = [k.lower.0, k.upper.0, mark_number(k.frozen)];
+            *out = [k.lower.0, k.upper.0, reporting::mark_number(k.frozen)];
             0
         }
     }
@@ -87,6 +86,39 @@ pub extern "C" fn sundewcup_place_unchecked(session: &[[u64; 21]; 33], id: u32, 
         Sought::At(l) => {
             let k = l.limits;
             place_number(report::placed(k, Steps(price)))
+        }
+    }
+}
+
+// What stands on a line, with the hold seconds, the shifts left and the clock of its session.
+fn reported(session: &[[u64; 21]; 33], l: Line) -> Report
+    requires { ⌜ (session-in (now session) .hold .0 ≤ 3_600) × Room (session-in (now session) .left) l ⌝ }
+    ensures { λ r. ⌜ r ≡ line-report (session-in (now (session .entry)) .hold) (session-in (now (session .entry)) .left)
+        (session-in (now (session .entry)) .clock) l ⌝ }
+{
+    let head = session[32];
+    let clock = Seconds(reading::word(head[1]));
+    let wait = Seconds(reading::word(head[3]));
+    report::line_report(wait, reading::word(head[4]), clock, l)
+}
+
+// All that stands on a line.
+#[no_mangle]
+pub extern "C" fn sundewcup_report(
+    session: &[[u64; 21]; 33],
+    id: u32,
+    out: &mut [[i64; 6]; 4],
+) -> i64
+    requires { ⌜ Valid (session-in (now session)) ⌝ }
+    ensures { λ r. ⌜ r ≡ pos (report-said (report id (view (session-in (now (session .entry))))) .number) ⌝ }
+    ensures { λ _. ⌜ now (out .exit) ≡ report-into (now (out .entry)) (report id (view (session-in (now (session .entry))))) ⌝ }
+{
+    match found(session, id) {
+        Sought::Nowhere => 13,
+        Sought::At(l) => {
+            let r = reported(session, l);
+            *out = reporting::report_rows(r);
+            0
         }
     }
 }

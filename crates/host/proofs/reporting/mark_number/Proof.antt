@@ -1,7 +1,7 @@
--- `host::questions::mark_number` meets its contract. Assumes nothing.
+-- `host::reporting::mark_number` meets its contract. Assumes nothing.
 use mathlib.Core.Path.{refl}
-use Rattle.host.proofs.questions.mark_number.Statement.{statement}
-use Rattle.host.proofs.questions.mark_number.Tie as tie
+use Rattle.host.proofs.reporting.mark_number.Statement.{statement}
+use Rattle.host.proofs.reporting.mark_number.Tie as tie
 
 returns : tie.Need-returns
 returns c = rw (c .if1 .taken) refl
