@@ -7,6 +7,7 @@ ghost use lib.ListN.{length};
 ghost use Rattle.method.specs.Types.{steps};
 ghost use Rattle.method.specs.Event.{limits, place};
 ghost use Rattle.method.specs.Refusals.{event-said, limits-said};
+ghost use Rattle.method.specs.Report.{report};
 ghost use Rattle.rows.specs.Buffer.{written};
 ghost use Rattle.corridor.specs.View.{view};
 ghost use Rattle.corridor.specs.Feeding.{fed, fed-into};
@@ -96,6 +97,24 @@ pub extern "C" fn sundewcup_limits(session: &[[u64; 21]; 33], id: u32, out: &mut
 {
     if intact::sound(session) {
         return questions::limits(session, id, out);
+    }
+    99
+}
+
+#[no_mangle]
+pub extern "C" fn sundewcup_report(
+    session: &[[u64; 21]; 33],
+    id: u32,
+    out: &mut [[i64; 6]; 4],
+) -> i64
+    ensures { λ r. ⌜ Tells (now (session .entry))
+        (r ≡ pos (report-said (report id (view (session-in (now (session .entry))))) .number)) (r ≡ damaged) ⌝ }
+    ensures { λ _. ⌜ Tells (now (session .entry))
+        (now (out .exit) ≡ report-into (now (out .entry)) (report id (view (session-in (now (session .entry))))))
+        (now (out .exit) ≡ now (out .entry)) ⌝ }
+{
+    if intact::sound(session) {
+        return questions::report(session, id, out);
     }
     99
 }

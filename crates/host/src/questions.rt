@@ -103,12 +103,7 @@ fn reported(session: &[[u64; 21]; 33], l: Line) -> Report
 }
 
 // All that stands on a line.
-#[no_mangle]
-pub extern "C" fn sundewcup_report(
-    session: &[[u64; 21]; 33],
-    id: u32,
-    out: &mut [[i64; 6]; 4],
-) -> i64
+pub(crate) fn report(session: &[[u64; 21]; 33], id: u32, out: &mut [[i64; 6]; 4]) -> i64
     requires { ⌜ Valid (session-in (now session)) ⌝ }
     ensures { λ r. ⌜ r ≡ pos (report-said (report id (view (session-in (now (session .entry))))) .number) ⌝ }
     ensures { λ _. ⌜ now (out .exit) ≡ report-into (now (out .entry)) (report id (view (session-in (now (session .entry))))) ⌝ }

@@ -1,4 +1,4 @@
--- `host::questions::sundewcup_report` meets its contract. Assumes nothing.
+-- `host::questions::report` meets its contract. Assumes nothing.
 use borrow.Author.Needs.{needs}
 use mathlib.Core.Path.{_≡_, sym, _∙_, ap}
 use denote.Ref.{now}
@@ -9,8 +9,8 @@ use Rattle.host.specs.declared.questions.Sought.{Sought}
 use Rattle.host.specs.Told.{sought, report-rows}
 use Rattle.packed.specs.Packed.{session-in}
 use Rattle.host.proofs.Reports.{sought-has, report-by, report-none, report-some}
-use Rattle.host.proofs.questions.sundewcup_report.Statement.{statement}
-use Rattle.host.proofs.questions.sundewcup_report.Tie as tie
+use Rattle.host.proofs.questions.report.Statement.{statement}
+use Rattle.host.proofs.questions.report.Tie as tie
 
 found-requires : tie.Need-found-requires
 found-requires c κs = search needs
@@ -50,7 +50,7 @@ returns-2 c =
     let x = view (session-in (now (s .session))) in
     report-some (report (s .id) x) _ (now (s .out)) _ (report-by x (s .id) (Sought.At (w .before .l .given .0 .0)) (line-is w)) (c .report-rows .ensures ∙ ap report-rows (c .before .reported .ensures))
 
-pub sundewcup-report-spec : {M : Type 1} → statement M
-sundewcup-report-spec =
+pub report-spec : {M : Type 1} → statement M
+report-spec =
     tie.close
     (tie.spec found-requires enum-told enum-known-l reported-requires report-rows-requires returns returns-2)
