@@ -26,7 +26,6 @@ use Rattle.corridor.specs.declared.Session.{Session}
 use Rattle.corridor.specs.declared.Served.{Served}
 use Rattle.corridor.specs.declared.Reply.{Reply}
 use Rattle.corridor.specs.View.{view, Ranged, Valid}
-use Rattle.corridor.specs.Quiet.{quiet-until}
 use Rattle.due.specs.Quiet.{until}
 use Rattle.corridor.specs.Reply.{no-shift, served-as, refused-with}
 use Rattle.corridor.specs.Feeding.{room}
@@ -36,7 +35,7 @@ use Rattle.corridor.proofs.DueServed.{served-path, idle, ranged-served}
 use Rattle.corridor.proofs.Gathered.{ids-after, ids-applied}
 use Rattle.corridor.proofs.Named.{Named, named-below, named-quoted}
 use Rattle.corridor.proofs.Saying.{Changes, Takes}
-use Rattle.corridor.proofs.Quiet.{Quiet, quiet-start, quiet-serves, quiet-first, quiet-tick, quiet-quoted}
+use Rattle.corridor.proofs.Quiet.{Quiet, quiet-start, quiet-serves, quiet-tick, quiet-quoted}
 use Rattle.corridor.proofs.Events.{reply, refused-is, accepted, moved-on, handed, lines-after, changes-after, event-taken}
 use Rattle.corridor.proofs.Theorems.{valid-event}
 use Rattle.corridor.proofs.Cutting.{Cut, fewer}
@@ -64,9 +63,9 @@ module _ (s : Session) (t : Seconds) (at : ℕ) (now : List ℤ) {s′ : Session
         none-due = rw (eq, es) h;
       }
 
-  -- from that second on what is due is served, and the quiet second is found anew
+  -- from that second on what is due is served, and the quiet second is to be found anew
   pub caught-served : (r : Served) → r ≡ served-as s (serve (s .left) t (view s)) → now′ ≡ written now at (numbers-of (map Row.Shift (take (r .made) (r .shifts))))
-      → s′ ≡ r .session → quiet ≡ quiet-until (view (r .session)) → at′ ≡ at + 6 * r .made → Caught s t at now s′ quiet at′ now′
+      → s′ ≡ r .session → quiet ≡ seconds 0 → at′ ≡ at + 6 * r .made → Caught s t at now s′ quiet at′ now′
   caught-served r er en es eq ea =
       record {
         shifts = r .shifts;
@@ -74,19 +73,16 @@ module _ (s : Session) (t : Seconds) (at : ℕ) (now : List ℤ) {s′ : Session
         served = served-path refl refl es ∙ er;
         on = ea;
         told = en;
-        none-due = rw (eq, es) (quiet-first (view (r .session)));
+        none-due = rw eq (quiet-start (view s′));
       }
 
--- what is served fits into the room, and is a session in its ranges
+-- what is served fits into the room
 module _ (s : Session) (t : Seconds) (v : Valid s) (r : Served) (e : r ≡ served-as s (serve (s .left) t (view s))) where
   pub served-few : (r .made ≤ 16) × (r .made ≤ s .left)
   served-few =
       let few = calls-left t (view s) (serve (s .left) t (view s)) (v .sound .exact) (serve-calls (s .left) t (view s) refl (v .sound .exact)) in
       let made : r .made ≡ length (serve (s .left) t (view s)) = ap (λ (z : Served). z .made) e in
       (omega (arith, few, made, v .sane .left), omega (arith, few, made))
-
-  pub served-ranged : Ranged (r .session)
-  served-ranged = rw e (ranged-served s t v)
 
 -- ---- the second before which nothing is due, after what an event changes
 abbrev quoted-at : Session → PlacedQuote → Line

@@ -15,9 +15,9 @@ use verdict::Verdict;
 impl Session {
     // Every event of the buffer in turn; a last one that is cut short is refused like any string that is no event. The room is worked out
     // first: where it is not there, nothing is done. The session stays in its place: before the second `quiet` no hold is due, and from it on
-    // that second is found anew before the session goes by value to be served. A guess at each id's place spares most searches; nothing
-    // hangs on its being right.
-    pub fn feed(mut self, events: &[u8], out: &mut [i64]) -> Fed
+    // that second is found anew before the session goes by value to be served; then it is 0, to be found at the next event. A guess at each
+    // id's place spares most searches; nothing hangs on its being right.
+    pub fn feed(self, events: &[u8], out: &mut [i64]) -> Fed
         requires { ⌜ Valid self ⌝ }
         ensures { λ r. ⌜ r ≡ fed self (length (now (out .entry))) (now (events .entry)) ⌝ }
         ensures { λ _. ⌜ now (out .exit) ≡ fed-into self (now (out .entry)) (now (events .entry)) ⌝ }
@@ -31,15 +31,13 @@ impl Session {
             };
         }
         let n = self.count;
-        let mut ids: [u32; 32] = [0; 32];
+        let ids = self.ids();
         let mut guesses: [u8; 256] = [0; 256];
         for i in 0..n {
-            let l = self.lines[i];
-            let id = l.terms.id;
-            ids[i] = id;
-            let slot = (id % 256) as usize;
+            let slot = (ids[i] % 256) as usize;
             guesses[slot] = i as u8;
         }
+        let mut s = self;
         let mut quiet = Seconds(0);
         let mut at: usize = 0;
         let mut from: usize = 0;
@@ -47,8 +45,8 @@ impl Session {
             let to = wire::event::cut(from, size);
             let e = wire::event::read(&events[from..to]);
             from = to;
-            let end = self.end;
-            let clock = self.clock;
+            let end = s.end;
+            let clock = s.clock;
             let slot = verdict::slot(e);
             let guess = guesses[slot];
             match verdict::screen(&ids[..n], guess, end, clock, e) {
@@ -59,37 +57,37 @@ impl Session {
                 Verdict::Taken(v) => {
                     let t = v.time;
                     if t.0 >= quiet.0 {
-                        quiet = self.quiet();
+                        quiet = s.quiet();
                     }
                     if quiet.0 <= t.0 {
-                        let r = self.served(t);
+                        let r = s.served(t);
                         let shifts = r.shifts;
                         at = rows::write_shifts(out, at, shifts, r.made);
-                        self = r.session;
-                        quiet = self.quiet();
+                        s = r.session;
+                        quiet = Seconds(0);
                     }
                     let change = v.change;
                     match change {
                         Change::Nothing => {}
                         Change::Quote(p) => {
-                            let near = self.near;
+                            let near = s.near;
                             let q = p.quote;
                             let place = p.place;
-                            let l = self.lines[place];
-                            let m = holds::shift::quoted_line(near, self.left, q, l);
-                            self.lines[place] = m;
-                            let wait = self.hold;
+                            let l = s.lines[place];
+                            let m = holds::shift::quoted_line(near, s.left, q, l);
+                            s.lines[place] = m;
+                            let wait = s.hold;
                             let h = m.holds;
                             quiet = due::until(quiet, wait, h);
                         }
                     }
-                    self.clock = t;
+                    s.clock = t;
                 }
             }
         }
         Fed {
             answer: RowsAnswer::Written(at),
-            session: self,
+            session: s,
         }
     }
 }

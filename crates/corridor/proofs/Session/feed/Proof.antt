@@ -22,26 +22,25 @@ use Rattle.corridor.specs.Feeding.{room}
 use Rattle.corridor.proofs.Views.{view-length, ranged}
 use Rattle.corridor.proofs.Quiet.{Quiet, quiet-first}
 use Rattle.corridor.proofs.Named.{named-below}
-use Rattle.corridor.proofs.Gathered.{Gathered, gathered-none, gathered-turn, gathered-all}
 use Rattle.corridor.proofs.Saying.{Changes, Says, Takes, session-says}
 use Rattle.corridor.proofs.Events.{quote-asks, quoted-in, quote-in}
 use Rattle.corridor.proofs.Cutting.{Cut, cut-is}
 use Rattle.corridor.proofs.Feeding.{ahead-long, all-fed, all-into, nothing-fed, nothing-into}
-use Rattle.corridor.proofs.Turns.{Caught, caught-none, caught-served, served-few, served-ranged, Turn, turn-start, row-fits, shifts-fit, turn-refused, turn-holds, turn-taken}
+use Rattle.corridor.proofs.Turns.{Caught, caught-none, caught-served, served-few, Turn, turn-start, row-fits, shifts-fit, turn-refused, turn-holds, turn-taken}
 use Rattle.corridor.proofs.Session.feed.Statement.{statement}
 use Rattle.corridor.proofs.Session.feed.Tie as tie
 
 abbrev Inv-loop : tie.InvT-loop
-Inv-loop events out self size needed n ids₀ guesses₀ i₀ ids guesses i = (i ≤ n) × Gathered (self .lines) i ids
+Inv-loop self events out size needed n ids guesses₀ i₀ guesses i = i ≤ n
 
 abbrev μ-loop : tie.MeasureT-loop
-μ-loop events out self size needed n ids₀ guesses₀ i₀ ids guesses i = n - i
+μ-loop self events out size needed n ids guesses₀ i₀ guesses i = n - i
 
 abbrev Inv-loop2 : tie.InvT-loop2
-Inv-loop2 events out₀ self₀ size needed n ids guesses quiet₀ at₀ from₀ out self quiet at from = Turn self₀ events out₀ n ids self quiet at from out
+Inv-loop2 events out₀ size needed n ids guesses s₀ quiet₀ at₀ from₀ out s quiet at from = Turn s₀ events out₀ n ids s quiet at from out
 
 abbrev μ-loop2 : tie.MeasureT-loop2
-μ-loop2 events out₀ self₀ size needed n ids guesses quiet₀ at₀ from₀ out self quiet at from = size - from
+μ-loop2 events out₀ size needed n ids guesses s₀ quiet₀ at₀ from₀ out s quiet at from = size - from
 
 -- ---- the places that ask for facts, and the way back from each to those that know them
 abbrev Start : Type 0
@@ -72,7 +71,7 @@ abbrev Quoted : Type 0
 Quoted = tie.After-known-told3 Inv-loop μ-loop Inv-loop2 μ-loop2
 
 abbrev from-gathering : Gathering → Start
-from-gathering c = c .before .before .before .before
+from-gathering c = c .before .before .before .before .before
 
 abbrev from-turning : Turning → Start
 from-turning c = from-gathering (c .before .before)
@@ -103,7 +102,7 @@ cut-quoted c = cut-served (c .before .before .before)
 
 -- ---- the event at hand: the session that meets it, its bytes, what is taken of it, and its quote
 abbrev session : CutOut → Session
-session c = turning c .loop2 .self
+session c = turning c .loop2 .s
 
 abbrev bytes : CutOut → List ℕ
 bytes c = take (c .cut .result - turning c .loop2 .from) (drop (turning c .loop2 .from) (now (from-turning (turning c) .args .events)))
@@ -122,54 +121,48 @@ returns : tie.Need-returns Inv-loop μ-loop Inv-loop2 μ-loop2
 returns c =
     let s = c .before .before .before in
     let e = c .before .room .ensures in (
-      nothing-fed (s .args .t1) (now (s .args .out)) (now (s .args .events)) e (c .if1 .taken),
-      nothing-into (s .args .t1) (now (s .args .out)) (now (s .args .events)) e (c .if1 .taken),
+      nothing-fed (s .args .self) (now (s .args .out)) (now (s .args .events)) e (c .if1 .taken),
+      nothing-into (s .args .self) (now (s .args .out)) (now (s .args .events)) e (c .if1 .taken),
     )
 
--- ---- the ids and the guesses are gathered
+-- ---- the ids are gathered, and the guesses made
+ids-requires : tie.Need-ids-requires Inv-loop μ-loop Inv-loop2 μ-loop2
+ids-requires c κs = ranged (c .before .before .before .pre)
+
 loop-holds : tie.Need-loop-holds Inv-loop μ-loop Inv-loop2 μ-loop2
-loop-holds c = (omega arith, gathered-none _)
+loop-holds c = omega arith
 
-mul-l : tie.Need-mul-l Inv-loop μ-loop Inv-loop2 μ-loop2
-mul-l c = omega (arith, from-gathering (c .before) .pre .few)
+mul-slot : tie.Need-mul-slot Inv-loop μ-loop Inv-loop2 μ-loop2
+mul-slot c = omega (arith, from-gathering (c .before) .pre .few)
 
-element-copy-out-l : tie.Need-element-copy-out-l Inv-loop μ-loop Inv-loop2 μ-loop2
-element-copy-out-l c = let v = from-gathering (c .before) .pre in omega (arith, v .few, v .full)
-
-mul-ids : tie.Need-mul-ids Inv-loop μ-loop Inv-loop2 μ-loop2
-mul-ids c = omega (arith, from-gathering (c .before .before) .pre .few)
-
-array-write-ids : tie.Need-array-write-ids Inv-loop μ-loop Inv-loop2 μ-loop2
-array-write-ids c = omega (arith, from-gathering (c .before .before) .pre .few)
+array-read-slot : tie.Need-array-read-slot Inv-loop μ-loop Inv-loop2 μ-loop2
+array-read-slot c = omega (arith, from-gathering (c .before) .pre .few)
 
 cast-slot : tie.Need-cast-slot Inv-loop μ-loop Inv-loop2 μ-loop2
 cast-slot c = search needs
 
 cast-guesses : tie.Need-cast-guesses Inv-loop μ-loop Inv-loop2 μ-loop2
-cast-guesses c = omega (arith, from-gathering (c .before .before) .pre .few)
+cast-guesses c = omega (arith, from-gathering (c .before) .pre .few)
 
 array-write-guesses : tie.Need-array-write-guesses Inv-loop μ-loop Inv-loop2 μ-loop2
 array-write-guesses c = omega arith
 
 add-i : tie.Need-add-i Inv-loop μ-loop Inv-loop2 μ-loop2
-add-i c = omega (arith, from-gathering (c .before .before) .pre .few)
+add-i c = omega (arith, from-gathering (c .before) .pre .few)
 
 loop-less : tie.Need-loop-less Inv-loop μ-loop Inv-loop2 μ-loop2
 loop-less c = search needs
 
 loop-again : tie.Need-loop-again Inv-loop μ-loop Inv-loop2 μ-loop2
-loop-again c =
-    let s = from-gathering (c .before .before) in
-    let at = c .before .before .loop in
-    (omega arith, gathered-turn (s .args .t1 .lines) (at .i) (at .ids) (omega (arith, s .pre .few, s .pre .full)) (omega (arith, s .pre .few)) (at .inv .1))
+loop-again c = omega arith
 
 loop2-holds : tie.Need-loop2-holds Inv-loop μ-loop Inv-loop2 μ-loop2
 loop2-holds c =
     let s = from-gathering (c .before) in
-    let at = c .before .loop in
-    turn-start (s .args .t1) (now (s .args .events)) (now (s .args .out)) (s .args .t1 .count) (at .ids) (s .pre)
-    (omega (arith, c .before .before .before .room .ensures, c .before .before .if1 .left))
-    (gathered-all (s .args .t1 .lines) (s .args .t1 .count) (at .i) (at .ids) (omega arith) (at .inv .1))
+    let asked = c .before .before .before in
+    let got = c .before .before .ids in
+    turn-start (s .args .self) (now (s .args .events)) (now (s .args .out)) (s .args .self .count) (got .result) (s .pre)
+    (omega (arith, asked .before .room .ensures, asked .if1 .left)) (got .ensures .1)
 
 -- ---- the event at hand is cut out and read
 cut-requires : tie.Need-cut-requires Inv-loop μ-loop Inv-loop2 μ-loop2
@@ -198,13 +191,12 @@ array-read-guess c = omega (arith, c .slot .ensures, slot-below (c .before .befo
 
 array-share-prefix-ids : tie.Need-array-share-prefix-ids Inv-loop μ-loop Inv-loop2 μ-loop2
 array-share-prefix-ids c =
-    let at = turning (c .before .before .before .before .before) .before .before in
-    omega (arith, from-gathering at .pre .few, at .loop .inv .1 .long)
+    omega (arith, from-turning (turning (c .before .before .before .before .before)) .pre .few)
 
 slice-aggregate-screen : tie.Need-slice-aggregate-screen Inv-loop μ-loop Inv-loop2 μ-loop2
 slice-aggregate-screen c =
     let at = turning (c .before .before .before .before .before .before) .before .before in
-    sym (length-take-le _ (at .loop .ids) (omega (arith, from-gathering at .pre .few, at .loop .inv .1 .long)))
+    sym (length-take-le _ (at .before .ids .result) (omega (arith, from-gathering at .pre .few, at .before .ids .ensures .0)))
 
 screen-requires : tie.Need-screen-requires Inv-loop μ-loop Inv-loop2 μ-loop2
 screen-requires c κs =
@@ -229,7 +221,7 @@ enum-known-why c = search needs
 row-has-room : (k : CutOut) → turning k .loop2 .at + 6 ≤ length (turning k .loop2 .out)
 row-has-room k =
     let s = from-turning (turning k) in
-    row-fits (s .args .t1) (now (s .args .events)) (now (s .args .out)) _ _ (turning k .loop2 .inv) (k .before .loop2-test .taken) (cut k)
+    row-fits (s .args .self) (now (s .args .events)) (now (s .args .out)) _ _ (turning k .loop2 .inv) (k .before .loop2-test .taken) (cut k)
 
 write-requires : tie.Need-write-requires Inv-loop μ-loop Inv-loop2 μ-loop2
 write-requires c κs = omega (arith, row-has-room (cut-screened (c .before .before .before .before)))
@@ -238,7 +230,7 @@ add-at : tie.Need-add-at Inv-loop μ-loop Inv-loop2 μ-loop2
 add-at c =
     let k = cut-screened (c .before .before .before .before .before .before) in
     let s = from-turning (turning k) in
-    omega (arith, row-has-room k, ahead-long (s .args .t1) (now (s .args .events)) (now (s .args .out)) (turning k .loop2 .inv .ahead), s .good)
+    omega (arith, row-has-room k, ahead-long (s .args .self) (now (s .args .events)) (now (s .args .out)) (turning k .loop2 .inv .ahead), s .good)
 
 loop2-less : tie.Need-loop2-less Inv-loop μ-loop Inv-loop2 μ-loop2
 loop2-less c = let k = cut (cut-screened (c .before .before .before .before .before .before)) in omega (arith, k .on, k .inside)
@@ -248,7 +240,7 @@ loop2-again c =
     let seen = c .before .before .before .before .before .before in
     let k = cut-screened seen in
     let s = from-turning (turning k) in
-    turn-refused (s .args .t1) (now (s .args .events)) (now (s .args .out)) _ _ (turning k .loop2 .inv) (k .before .loop2-test .taken) (cut k) _
+    turn-refused (s .args .self) (now (s .args .events)) (now (s .args .out)) _ _ (turning k .loop2 .inv) (k .before .loop2-test .taken) (cut k) _
     (subst (Says (view (session k)) (read (bytes k))) (c .before .before .before .before .why .given .1) (said seen)) (c .before .write .ensures)
 
 -- ---- the holds that are due are served, or none is
@@ -272,23 +264,17 @@ write-shifts-requires c κs =
     let k = cut-looked (c .before .before .before .before .before .before) in
     let s = from-turning (turning k) in
     let at = turning k .loop2 in
-    let few = served-few (at .self) _ (at .inv .ahead .valid) (c .before .before .served .result) (c .before .before .served .ensures) in
-    (few .0, shifts-fit (s .args .t1) (now (s .args .events)) (now (s .args .out)) _ _ (at .inv) (k .before .loop2-test .taken) (cut k) _ (few .1))
-
-quiet-requires-2 : tie.Need-quiet-requires-2 Inv-loop μ-loop Inv-loop2 μ-loop2
-quiet-requires-2 c κs =
-    let r = c .before .before .before .before .before in
-    let at = turning (cut-looked (r .before .before .before .before)) .loop2 in
-    served-ranged (at .self) _ (at .inv .ahead .valid) (r .served .result) (r .served .ensures)
+    let few = served-few (at .s) _ (at .inv .ahead .valid) (c .before .before .served .result) (c .before .before .served .ensures) in
+    (few .0, shifts-fit (s .args .self) (now (s .args .events)) (now (s .args .out)) _ _ (at .inv) (k .before .loop2-test .taken) (cut k) _ (few .1))
 
 caught : (c : Served)
     → let at = turning (cut-served c) .loop2 in
-    Caught (at .self) (taken (timed c) .time) (at .at) (at .out) (c .if3 .self) (c .if3 .quiet) (c .if3 .at) (c .if3 .out)
+    Caught (at .s) (taken (timed c) .time) (at .at) (at .out) (c .if3 .s) (c .if3 .quiet) (c .if3 .at) (c .if3 .out)
 caught c =
     let at = turning (cut-served c) .loop2 in
     ⊎-elim
-    (λ w. caught-served (at .self) _ (at .at) (at .out) (w .1 .result) (w .1 .ensures) (w .8 ∙ w .4 .ensures .1) (w .9) (w .10 ∙ w .7 .ensures) (w .11 ∙ w .4 .ensures .0))
-    (λ w. caught-none (at .self) _ (at .at) (at .out) _ (at .inv .ahead .valid) (still-quiet (looked c)) (w .0 .left) (w .1) (w .2) (w .3) (w .4)) (c .if3 .came)
+    (λ w. caught-served (at .s) _ (at .at) (at .out) (w .1 .result) (w .1 .ensures) (w .7 ∙ w .4 .ensures .1) (w .8) (w .9) (w .10 ∙ w .4 .ensures .0))
+    (λ w. caught-none (at .s) _ (at .at) (at .out) _ (at .inv .ahead .valid) (still-quiet (looked c)) (w .0 .left) (w .1) (w .2) (w .3) (w .4)) (c .if3 .came)
 
 -- ---- the line of a quote
 enum-told : tie.Need-enum-told Inv-loop μ-loop Inv-loop2 μ-loop2
@@ -305,14 +291,14 @@ changes c =
 below : (c : Quoted) → placed c .place < 32
 below c =
     let at = turning (cut-quoted c) .loop2 in
-    let named = named-below (placed c .quote .id) (view (at .self) .lines) (placed c .place) (changes c .1) in
+    let named = named-below (placed c .quote .id) (view (at .s) .lines) (placed c .place) (changes c .1) in
     omega (arith, named, view-length (at .inv .ahead .valid), at .inv .ahead .valid .few)
 
-mul-l-2 : tie.Need-mul-l-2 Inv-loop μ-loop Inv-loop2 μ-loop2
-mul-l-2 c = omega (arith, below (c .before .before))
+mul-l : tie.Need-mul-l Inv-loop μ-loop Inv-loop2 μ-loop2
+mul-l c = omega (arith, below (c .before .before))
 
-element-copy-out-l-2 : tie.Need-element-copy-out-l-2 Inv-loop μ-loop Inv-loop2 μ-loop2
-element-copy-out-l-2 c = below (c .before .before)
+element-copy-out-l : tie.Need-element-copy-out-l Inv-loop μ-loop Inv-loop2 μ-loop2
+element-copy-out-l c = below (c .before .before)
 
 quoted-line-requires : tie.Need-quoted-line-requires Inv-loop μ-loop Inv-loop2 μ-loop2
 quoted-line-requires c κs =
@@ -320,7 +306,7 @@ quoted-line-requires c κs =
     let r = q .before .before .before in
     let at = turning (cut-quoted q) .loop2 in
     let o = changes q in
-    quote-asks (at .self) (taken (timed r) .time) (placed q .quote) (placed q .place) _ (at .inv .ahead .valid) (o .1)
+    quote-asks (at .s) (taken (timed r) .time) (placed q .quote) (placed q .place) _ (at .inv .ahead .valid) (o .1)
     (quote-in _ (placed q .quote) (o .0)) (caught r .served)
 
 mul-m : tie.Need-mul-m Inv-loop μ-loop Inv-loop2 μ-loop2
@@ -335,7 +321,7 @@ until-requires c κs =
     let r = q .before .before .before in
     let k = cut-served r in
     let s = from-turning (turning k) in
-    turn-holds (s .args .t1) (now (s .args .events)) (now (s .args .out)) _ _ (turning k .loop2 .inv) (k .before .loop2-test .taken) (cut k) _
+    turn-holds (s .args .self) (now (s .args .events)) (now (s .args .out)) _ _ (turning k .loop2 .inv) (k .before .loop2-test .taken) (cut k) _
     (takes (timed r)) (caught r) (placed q) (q .before .change .given .1) _ (c .before .before .quoted-line .ensures)
 
 -- ---- an event that is taken: the next turn
@@ -348,13 +334,13 @@ loop2-again-2 c =
     let k = cut-served r in
     let s = from-turning (turning k) in
     let then =
-    turn-taken (s .args .t1) (now (s .args .events)) (now (s .args .out)) _ _ (turning k .loop2 .inv) (k .before .loop2-test .taken) (cut k) _
+    turn-taken (s .args .self) (now (s .args .events)) (now (s .args .out)) _ _ (turning k .loop2 .inv) (k .before .loop2-test .taken) (cut k) _
     (takes (timed r)) (caught r) in
-    let put = quoted-in (r .if3 .self) in
-    let later = until (r .if3 .quiet) (r .if3 .self .hold) in
-    ⊎-elim (λ w. then Change.Nothing (w .1 .given .1) (c .match2 .self) (w .2) (c .match2 .quiet) (w .3))
+    let put = quoted-in (r .if3 .s) in
+    let later = until (r .if3 .quiet) (r .if3 .s .hold) in
+    ⊎-elim (λ w. then Change.Nothing (w .1 .given .1) (c .match2 .s) (w .2) (c .match2 .quiet) (w .3))
     (λ w.
-    then (Change.Quote (w .1 .given .0 .0)) (w .1 .given .1) (c .match2 .self) (w .10 ∙ ap (put (w .1 .given .0 .0 .place)) (w .6 .ensures))
+    then (Change.Quote (w .1 .given .0 .0)) (w .1 .given .1) (c .match2 .s) (w .10 ∙ ap (put (w .1 .given .0 .0 .place)) (w .6 .ensures))
     (c .match2 .quiet) (w .11 ∙ w .9 .ensures ∙ ap (λ (l : Line). later (l .holds)) (w .6 .ensures)))
     (c .match2 .came)
 
@@ -362,18 +348,18 @@ loop2-again-2 c =
 same-length : tie.Need-same-length Inv-loop μ-loop Inv-loop2 μ-loop2
 same-length c =
     let s = from-turning (c .before) in
-    ahead-long (s .args .t1) (now (s .args .events)) (now (s .args .out)) (c .before .loop2 .inv .ahead)
+    ahead-long (s .args .self) (now (s .args .events)) (now (s .args .out)) (c .before .loop2 .inv .ahead)
 
 returns-2 : tie.Need-returns-2 Inv-loop μ-loop Inv-loop2 μ-loop2
 returns-2 c =
     let s = from-turning (c .before) in
     let at = c .before .loop2 in
     let h = at .inv .ahead in
-    let asked = c .before .before .before .before in
+    let asked = c .before .before .before .before .before in
     let last : at .from ≡ length (now (s .args .events)) = omega (arith, h .inside) in
     let enough : room (length (now (s .args .events))) ≤ length (now (s .args .out)) = omega (arith, asked .before .room .ensures, asked .if1 .left) in (
-      all-fed (s .args .t1) (now (s .args .events)) (now (s .args .out)) h last enough,
-      all-into (s .args .t1) (now (s .args .events)) (now (s .args .out)) h last enough,
+      all-fed (s .args .self) (now (s .args .events)) (now (s .args .out)) h last enough,
+      all-into (s .args .self) (now (s .args .events)) (now (s .args .out)) h last enough,
     )
 
 pub feed-spec : {M : Type 1} → statement M
@@ -386,11 +372,10 @@ feed-spec =
     μ-loop2
     room-requires
     returns
+    ids-requires
     loop-holds
-    mul-l
-    element-copy-out-l
-    mul-ids
-    array-write-ids
+    mul-slot
+    array-read-slot
     cast-slot
     cast-guesses
     array-write-guesses
@@ -417,11 +402,10 @@ feed-spec =
     quiet-requires
     served-requires
     write-shifts-requires
-    quiet-requires-2
     enum-told
     enum-known-change
-    mul-l-2
-    element-copy-out-l-2
+    mul-l
+    element-copy-out-l
     quoted-line-requires
     mul-m
     element-set-from-m
