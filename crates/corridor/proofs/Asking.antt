@@ -1,47 +1,70 @@
--- What the questions answer at the end of a walk over the lines: at the line that has the id, or past all of them. Assumes nothing.
-use mathlib.Core.Path.{_≡_}
-use mathlib.Core.Bool.{false}
-use Prim.Native.Nat.{ℕ, _≤_, _<_}
+-- The line that a question is about, found by a walk over the lines, and what the questions answer of it. Assumes nothing.
+use mathlib.Core.Path.{_≡_, refl, ap, subst}
+use mathlib.Core.Bool.{Bool, true, false, cond, _||_, false≢true}
+use mathlib.Core.List.{List, [], _∷_}
+use Prim.Native.Nat.{ℕ}
+use native.Mathlib.Omega.{arith}
+use lib.Dec.{eqb}
 use lib.ListN.{getD}
-use Rattle.method.specs.Types.{blank}
+use Rattle.method.specs.Types.{State, blank, demand}
 use Rattle.method.specs.Opening.{known}
-use Rattle.method.specs.Event.{limits, placed, place}
+use Rattle.method.specs.Event.{line-of, limits, placed, place}
 use Rattle.method.specs.Report.{line-report, report}
-use Rattle.corridor.specs.Names.{Steps, EventReason, LimitsAnswer, PlaceAnswer, ReportAnswer}
+use Rattle.method.specs.Ranges.{Every}
+use Rattle.corridor.specs.Names.{Steps, Line, EventReason, LimitsAnswer, PlaceAnswer, ReportAnswer}
 use Rattle.corridor.specs.declared.Session.{Session}
+use Rattle.corridor.specs.declared.questions.Sought.{Sought}
 use Rattle.corridor.specs.View.{view, Valid}
-use Rattle.corridor.proofs.Named.{Named, named-known, Walk, walk-met, walk-all, walk-line}
+use Rattle.corridor.specs.Asked.{sought}
+use Rattle.corridor.proofs.Named.{Named, named-known, walk-line}
 
--- ---- the line at i has the id
-module _ (s : Session) (id i : ℕ) (v : Valid s) (w : Walk s id i) (g : i < s .count) (e : getD (s .lines) i blank .terms .id ≡ id) where
-  here : Named id (view s .lines) i
-  here = walk-met s id i v w g e
+-- ---- the end of the walk: at the line that has the id, or past all of them
+pub sought-met : (s : Session) (id p : ℕ) → Valid s → Named id (view s .lines) p → Sought.At (getD (s .lines) p blank) ≡ sought id (view s)
+unfolding sought
+sought-met s id p v h = rw (named-known id (view s .lines) p h, walk-line s id p v h)
 
-  pub limits-met : LimitsAnswer.Standing (getD (s .lines) i blank .limits) ≡ limits id (view s)
-  unfolding limits
-  limits-met = rw (named-known id (view s .lines) i here, walk-line s id i v here)
+pub sought-unmet : (s : Session) (id : ℕ) → known id (view s .lines) ≡ false → Sought.Nowhere ≡ sought id (view s)
+unfolding sought
+sought-unmet s id h = rw h
 
-  pub place-met : (price : Steps) → placed (getD (s .lines) i blank .limits) price ≡ place id price (view s)
-  unfolding place
-  place-met price = rw (named-known id (view s .lines) i here, walk-line s id i v here)
+-- ---- what holds of every line holds of the one that is sought
+every-line : (P : Line → Type 0) (id : ℕ) (ls : List Line) → Every P ls → known id ls ≡ true → P (line-of id ls)
+unfolding Every known line-of
+every-line P id [] h k = absurd (false≢true k)
+every-line P id (l ∷ ls) h k = go (eqb (l .terms .id) id) k (every-line P id ls (h .1))
+  where
+    go : (b : Bool) → (b || known id ls) ≡ true → (known id ls ≡ true → P (line-of id ls)) → P (cond b l (line-of id ls))
+    go true k more = h .0
+    go false k more = more k
 
-  pub report-met : ReportAnswer.Standing (line-report (s .hold) (s .left) (s .clock) (getD (s .lines) i blank)) ≡ report id (view s)
-  unfolding report
-  report-met = rw (named-known id (view s .lines) i here, walk-line s id i v here)
+pub sought-every : (P : Line → Type 0) (id : ℕ) (s : State) (l : Line) → Every P (s .lines) → Sought.At l ≡ sought id s → P l
+unfolding sought
+sought-every P id s l h e = go (known id (s .lines)) refl e
+  where
+    go : (b : Bool) → known id (s .lines) ≡ b → Sought.At l ≡ demand b Sought.Nowhere (Sought.At (line-of id (s .lines))) → P l
+    go true k q = let same : line-of id (s .lines) ≡ l = cc in subst P same (every-line P id (s .lines) h k)
+    go false k q = let z : _≡_ {A = ℕ} 0 1 = cc in absurd (omega arith)
 
--- ---- no line has it
-module _ (s : Session) (id i : ℕ) (v : Valid s) (w : Walk s id i) (g : s .count ≤ i) where
-  nowhere : known id (view s .lines) ≡ false
-  nowhere = walk-all s id i v w g
+-- ---- the answers, from the line that was sought
+abbrev by-sought : {A : Type 0} → A → (Line → A) → Sought → A
+by-sought none some Sought.Nowhere = none
+by-sought none some (Sought.At l) = some l
 
-  pub limits-unmet : LimitsAnswer.Refused EventReason.UnknownId ≡ limits id (view s)
-  unfolding limits
-  limits-unmet = rw nowhere
+from-sought : {A : Type 0} (none : A) (some : Line → A) (b : Bool) (l : Line) (x : Sought) → x ≡ demand b Sought.Nowhere (Sought.At l)
+    → by-sought none some x ≡ demand b none (some l)
+from-sought none some true l x e = ap (by-sought none some) e
+from-sought none some false l x e = ap (by-sought none some) e
 
-  pub place-unmet : (price : Steps) → PlaceAnswer.Refused EventReason.UnknownId ≡ place id price (view s)
-  unfolding place
-  place-unmet price = rw nowhere
+module _ (s : State) (id : ℕ) (x : Sought) (e : x ≡ sought id s) where
+  pub limits-by : by-sought (LimitsAnswer.Refused EventReason.UnknownId) (λ l. LimitsAnswer.Standing (l .limits)) x ≡ limits id s
+  unfolding limits sought
+  limits-by = from-sought (LimitsAnswer.Refused EventReason.UnknownId) (λ l. LimitsAnswer.Standing (l .limits)) (known id (s .lines)) (line-of id (s .lines)) x e
 
-  pub report-unmet : ReportAnswer.Refused EventReason.UnknownId ≡ report id (view s)
-  unfolding report
-  report-unmet = rw nowhere
+  pub place-by : (p : Steps) → by-sought (PlaceAnswer.Refused EventReason.UnknownId) (λ l. placed (l .limits) p) x ≡ place id p s
+  unfolding place sought
+  place-by p = from-sought (PlaceAnswer.Refused EventReason.UnknownId) (λ l. placed (l .limits) p) (known id (s .lines)) (line-of id (s .lines)) x e
+
+  pub report-by : by-sought (ReportAnswer.Refused EventReason.UnknownId) (λ l. ReportAnswer.Standing (line-report (s .hold) (s .left) (s .clock) l)) x ≡ report id s
+  unfolding report sought
+  report-by =
+      from-sought (ReportAnswer.Refused EventReason.UnknownId) (λ l. ReportAnswer.Standing (line-report (s .hold) (s .left) (s .clock) l)) (known id (s .lines)) (line-of id (s .lines)) x e

@@ -1,35 +1,54 @@
 // Questions on one line: its limits, the place of an order price, and all that stands on it. They know only refusal 13, serve no hold and
-// know no time. Each walks the lines by itself, since a session is too large to be handed to a search.
+// know no time.
 
 ghost use mathlib.Core.Path.{_≡_};
 ghost use Rattle.method.specs.Event.{limits, place};
 ghost use Rattle.method.specs.Report.{report};
 ghost use Rattle.corridor.specs.View.{view, Valid};
+ghost use Rattle.corridor.specs.Asked.{sought};
 use crate::Session;
 use method::EventReason;
 use method::LimitsAnswer;
+use method::Line;
 use method::PlaceAnswer;
 use method::ReportAnswer;
 use numbers::Steps;
 
+pub enum Sought {
+    At(Line),
+    Nowhere,
+}
+
 impl Session {
-    // The limits of a contract.
-    pub fn limits(self, id: u32) -> LimitsAnswer
+    // The line that has the id. The session may be copied on its way here: no question is asked once an event.
+    fn found(self, id: u32) -> Sought
         requires { ⌜ Valid self ⌝ }
-        ensures { λ r. ⌜ r ≡ limits id (view self) ⌝ }
+        ensures { λ r. ⌜ r ≡ sought id (view self) ⌝ }
     {
         let n = self.count;
         let mut i: usize = 0;
         while i < n {
             let l = self.lines[i];
-            let t = l.terms;
-            if t.id == id {
-                let k = l.limits;
-                return LimitsAnswer::Standing(k);
+            if l.terms.id == id {
+                return Sought::At(l);
             }
             i = i + 1;
         }
-        LimitsAnswer::Refused(EventReason::UnknownId)
+        Sought::Nowhere
+    }
+
+    // The limits of a contract.
+    pub fn limits(self, id: u32) -> LimitsAnswer
+        requires { ⌜ Valid self ⌝ }
+        ensures { λ r. ⌜ r ≡ limits id (view self) ⌝ }
+    {
+        match self.found(id) {
+            Sought::Nowhere => LimitsAnswer::Refused(EventReason::UnknownId),
+            Sought::At(l) => {
+                let k = l.limits;
+                LimitsAnswer::Standing(k)
+            }
+        }
     }
 
     // Where an order price lies.
@@ -37,18 +56,13 @@ impl Session {
         requires { ⌜ Valid self ⌝ }
         ensures { λ r. ⌜ r ≡ place id price (view self) ⌝ }
     {
-        let n = self.count;
-        let mut i: usize = 0;
-        while i < n {
-            let l = self.lines[i];
-            let t = l.terms;
-            if t.id == id {
+        match self.found(id) {
+            Sought::Nowhere => PlaceAnswer::Refused(EventReason::UnknownId),
+            Sought::At(l) => {
                 let k = l.limits;
-                return report::placed(k, price);
+                report::placed(k, price)
             }
-            i = i + 1;
         }
-        PlaceAnswer::Refused(EventReason::UnknownId)
     }
 
     // All that stands on a contract's line.
@@ -56,18 +70,13 @@ impl Session {
         requires { ⌜ Valid self ⌝ }
         ensures { λ r. ⌜ r ≡ report id (view self) ⌝ }
     {
-        let n = self.count;
-        let mut i: usize = 0;
-        while i < n {
-            let l = self.lines[i];
-            let t = l.terms;
-            if t.id == id {
+        match self.found(id) {
+            Sought::Nowhere => ReportAnswer::Refused(EventReason::UnknownId),
+            Sought::At(l) => {
                 let wait = self.hold;
                 let clock = self.clock;
-                return ReportAnswer::Standing(report::line_report(wait, self.left, clock, l));
+                ReportAnswer::Standing(report::line_report(wait, self.left, clock, l))
             }
-            i = i + 1;
         }
-        ReportAnswer::Refused(EventReason::UnknownId)
     }
 }
