@@ -22,8 +22,7 @@ impl Session {
         let n = self.count;
         let mut got: [u32; 32] = [0; 32];
         for i in 0..n {
-            let l = self.lines[i];
-            got[i] = l.terms.id;
+            got[i] = self.lines[i].terms.id;
         }
         got
     }

@@ -34,7 +34,7 @@ impl Session {
         self
     }
 
-    // The hold that goes first, of all that stand.
+    // The hold that goes first, of all that stand: the next one to be served, and what a buffer of events may wait for.
     fn first(self) -> Found
         requires { ⌜ Ranged self ⌝ }
         ensures { λ r. ⌜ r ≡ earliest (self .hold) 0 (view self .lines) Nothing ⌝ }
@@ -56,13 +56,13 @@ impl Session {
         ensures { λ r. ⌜ r ≡ called (view self) d ⌝ }
     {
         let place = d.place;
-        let l = self.lines[place];
+        let id = self.lines[place].terms.id;
         let second = d.second;
         let side = d.side;
         ShiftLine {
             second: second,
             side: side,
-            id: l.terms.id,
+            id: id,
         }
     }
 

@@ -15,28 +15,28 @@ abbrev μ-loop : tie.MeasureT-loop
 loop-holds : tie.Need-loop-holds Inv-loop μ-loop
 loop-holds c = (omega arith, gathered-none _)
 
-mul-l : tie.Need-mul-l Inv-loop μ-loop
-mul-l c = let v = c .before .before .pre in omega (arith, v .few)
-
-element-copy-out-l : tie.Need-element-copy-out-l Inv-loop μ-loop
-element-copy-out-l c = let v = c .before .before .pre in omega (arith, v .few, v .full)
-
 mul-got : tie.Need-mul-got Inv-loop μ-loop
-mul-got c = let v = c .before .before .before .pre in omega (arith, v .few)
+mul-got c = let v = c .before .before .pre in omega (arith, v .few)
+
+element-copy-out-got : tie.Need-element-copy-out-got Inv-loop μ-loop
+element-copy-out-got c = let v = c .before .before .pre in omega (arith, v .few, v .full)
+
+mul-got-2 : tie.Need-mul-got-2 Inv-loop μ-loop
+mul-got-2 c = let v = c .before .before .pre in omega (arith, v .few)
 
 array-write-got : tie.Need-array-write-got Inv-loop μ-loop
-array-write-got c = let v = c .before .before .before .pre in omega (arith, v .few)
+array-write-got c = let v = c .before .before .pre in omega (arith, v .few)
 
 add-i : tie.Need-add-i Inv-loop μ-loop
-add-i c = let v = c .before .before .before .pre in omega (arith, v .few)
+add-i c = let v = c .before .before .pre in omega (arith, v .few)
 
 loop-less : tie.Need-loop-less Inv-loop μ-loop
 loop-less c = search needs
 
 loop-again : tie.Need-loop-again Inv-loop μ-loop
 loop-again c =
-    let s = c .before .before .before in
-    let at = c .before .before .loop in
+    let s = c .before .before in
+    let at = c .before .loop in
     (omega arith, gathered-turn (s .args .t1 .lines) (at .i) (at .got) (omega (arith, s .pre .few, s .pre .full)) (omega (arith, s .pre .few)) (at .inv .1))
 
 returns : tie.Need-returns Inv-loop μ-loop
@@ -52,9 +52,9 @@ ids-spec =
     Inv-loop
     μ-loop
     loop-holds
-    mul-l
-    element-copy-out-l
     mul-got
+    element-copy-out-got
+    mul-got-2
     array-write-got
     add-i
     loop-less
