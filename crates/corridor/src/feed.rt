@@ -1,6 +1,7 @@
 // A whole buffer of events: their answers as rows of numbers, in a buffer that the caller lends.
 
 ghost use mathlib.Core.Path.{_≡_};
+ghost use Prim.Native.Nat.{_≤_};
 ghost use lib.ListN.{length};
 ghost use Rattle.corridor.specs.View.{Valid};
 ghost use Rattle.corridor.specs.Feeding.{fed, fed-into};
@@ -12,11 +13,22 @@ use numbers::Seconds;
 use verdict::Change;
 use verdict::Verdict;
 
+// For each of the first n ids a guess at its place, which spares most searches. Nothing hangs on its being right.
+fn guessed(ids: &[u32; 32], n: usize) -> [u8; 256]
+    requires { ⌜ n ≤ 32 ⌝ }
+{
+    let mut places: [u8; 256] = [0; 256];
+    for i in 0..n {
+        let slot = (ids[i] % 256) as usize;
+        places[slot] = i as u8;
+    }
+    places
+}
+
 impl Session {
     // Every event of the buffer in turn; a last one that is cut short is refused like any string that is no event. The room is worked out
     // first: where it is not there, nothing is done. The session stays in its place: before the second `quiet` no hold is due, and from it on
-    // that second is found anew before the session goes by value to be served; then it is 0, to be found at the next event. A guess at each
-    // id's place spares most searches; nothing hangs on its being right.
+    // that second is found anew before the session goes by value to be served; then it is 0, to be found at the next event.
     pub fn feed(self, events: &[u8], out: &mut [i64]) -> Fed
         requires { ⌜ Valid self ⌝ }
         ensures { λ r. ⌜ r ≡ fed self (length (now (out .entry))) (now (events .entry)) ⌝ }
@@ -32,11 +44,7 @@ impl Session {
         }
         let n = self.count;
         let ids = self.ids();
-        let mut guesses: [u8; 256] = [0; 256];
-        for i in 0..n {
-            let slot = (ids[i] % 256) as usize;
-            guesses[slot] = i as u8;
-        }
+        let guesses = guessed(&ids, n);
         let mut s = self;
         let mut quiet = Seconds(0);
         let mut at: usize = 0;
