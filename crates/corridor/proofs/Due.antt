@@ -15,7 +15,7 @@ use Rattle.method.specs.Search.{due-of, ahead, sooner, passed, earliest, in-tim
 use Rattle.holds.proofs.Rooms.{room-passes}
 use Rattle.corridor.specs.Names.{Side, Up, Down, Seconds, Hold, Idle, Since, Holds, Line, Due, Found, Nothing, At}
 use Rattle.corridor.specs.declared.Session.{Session}
-use Rattle.corridor.specs.View.{Ranged}
+use Rattle.corridor.specs.View.{view, Ranged}
 use Rattle.corridor.proofs.Rows.{room-at}
 
 -- ---- the loop: the rows from i on, with the best so far, give what all rows give
@@ -35,6 +35,14 @@ pub passed-all : (wait : Seconds) (n : ℕ) (rows : List Line) (i : ℕ) (best :
     → best ≡ earliest wait 0 (take n rows) Nothing
 unfolding earliest
 passed-all wait n rows i best g e p = rw (e, all-passed n rows g) at p
+
+-- all rows passed: what is in time is the next hold of the method
+pub searched : (s : Session) (t wait end : Seconds) (n i : ℕ) (best d : Found) → s .count ≡ n → s .hold ≡ wait → s .end ≡ end → n ≤ length (s .lines)
+    → i ≡ n → Passed wait n (s .lines) i best → d ≡ in-time t end (s .left) best → next-due t (view s) ≡ d
+unfolding next-due
+searched s t wait end n i best d en ew ee g p q e =
+    let b = passed-all wait n (s .lines) i best g p q in
+    rw (e, b, en, ew, ee)
 
 -- ---- the hold that is found stands at a place of the table
 unfoldable Placed : ℕ → Found → Type 0

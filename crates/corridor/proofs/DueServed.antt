@@ -1,14 +1,15 @@
--- Serving: what holds at the head of the loop, and a turn of it; and the session that is served. Assumes nothing.
+-- Serving: what holds at the head of the outer loop, and a turn of it; and the session that is served. Assumes nothing.
 use mathlib.Core.Path.{_≡_, refl, ap, sym, _∙_}
 use mathlib.Core.List.{List, [], _∷_, _++_, append-assoc, append-nil}
-use Prim.Native.Nat.{ℕ, zero, suc, _+_, _-_, _≤_}
+use Prim.Native.Nat.{ℕ, zero, suc, _+_, _-_, _<_, _≤_}
 use native.Mathlib.Omega.{arith}
-use lib.ListN.{length, set, replicate, length-append}
+use lib.ListN.{length, getD, set, replicate, length-append}
+use lib.Seq.{getD-take}
 use Rattle.numbers.specs.Arrays.{padded}
 use Rattle.numbers.proofs.Arrays.{padded-set}
-use Rattle.method.specs.Types.{State}
+use Rattle.method.specs.Types.{State, blank}
 use Rattle.method.specs.Shift.{shifted, onward, after}
-use Rattle.method.specs.Search.{earliest, in-time, next-due, called, serve}
+use Rattle.method.specs.Search.{in-time, next-due, called, serve}
 use Rattle.method.proofs.Serving.{serve-calls}
 use Rattle.method.proofs.Later.{sane-after}
 use Rattle.corridor.specs.Names.{Seconds, ShiftLine, Due, Found, Nothing, At}
@@ -16,9 +17,9 @@ use Rattle.corridor.specs.declared.Session.{Session}
 use Rattle.corridor.specs.declared.Served.{Served}
 use Rattle.corridor.specs.View.{view, put, Ranged, Valid}
 use Rattle.corridor.specs.Reply.{no-shift, served-as}
-use Rattle.corridor.proofs.Views.{view-put, put-put, put-view, view-length, ranged, ranged-put}
+use Rattle.corridor.proofs.Views.{view-put, put-put, put-view, view-length, ranged, ranged-length, ranged-put}
 use Rattle.corridor.proofs.Shifting.{shifted-length, after-length, after-last, ranged-shifted}
-use Rattle.corridor.proofs.Due.{next-is}
+use Rattle.corridor.proofs.Due.{Passed, searched, Next, next-is}
 
 -- ---- one step of serving
 pub serve-stop : (n : ℕ) (t : Seconds) (s : State) → next-due t s ≡ Nothing → serve n t s ≡ []
@@ -30,10 +31,12 @@ serve-go : (n : ℕ) (t : Seconds) (s : State) (x : Due) → next-due t s ≡ At
 unfolding serve
 serve-go n t s x e = rw e
 
--- ---- at the head of the loop: `cs` are the shift lines made so far, and with those that are left to make they are the method's
-pub record Going (t : Seconds) (s₀ : Session) (end : Seconds) (s : Session) (shifts : List ShiftLine) (made : ℕ) : Type 0 where
+-- ---- at the head of the outer loop: `cs` are the shift lines made so far, and with those that are left to make they are the method's
+pub record Going (t : Seconds) (s₀ : Session) (n : ℕ) (wait end : Seconds) (s : Session) (shifts : List ShiftLine) (made : ℕ) : Type 0 where
   pub cs : List ShiftLine
   pub ranged : Ranged s
+  pub lines : s .count ≡ n
+  pub waits : s .hold ≡ wait
   pub ends : s .end ≡ end
   pub written : s ≡ put s₀ (view s)
   pub now : view s ≡ after cs (view s₀)
@@ -42,12 +45,14 @@ pub record Going (t : Seconds) (s₀ : Session) (end : Seconds) (s : Session) (s
   pub spent : length cs + s .left ≤ 16
   pub rest : serve (s₀ .left) t (view s₀) ≡ cs ++ serve (s .left) t (view s)
 
-pub going-start : (t : Seconds) (s : Session) → Valid s → Going t s (s .end) s (replicate 16 no-shift) 0
+pub going-start : (t : Seconds) (s : Session) → Valid s → Going t s (s .count) (s .hold) (s .end) s (replicate 16 no-shift) 0
 unfolding after
 going-start t s v =
     record {
       cs = [];
       ranged = ranged v;
+      lines = refl;
+      waits = refl;
       ends = refl;
       written = sym (put-view v);
       now = refl;
@@ -57,11 +62,11 @@ going-start t s v =
       rest = refl;
     }
 
-module _ {t : Seconds} {s₀ : Session} {end : Seconds} {s : Session} {shifts : List ShiftLine} {made : ℕ} (at : Going t s₀ end s shifts made) where
-  -- the hold that goes first, if it is in time, is the next one
-  pub going-found : (best d : Found) → best ≡ earliest (s .hold) 0 (view s .lines) Nothing → d ≡ in-time t end (s .left) best → next-due t (view s) ≡ d
-  unfolding next-due
-  going-found best d eb ed = rw (ed, eb, at .ends)
+module _ {t : Seconds} {s₀ : Session} {n : ℕ} {wait end : Seconds} {s : Session} {shifts : List ShiftLine} {made : ℕ} (at : Going t s₀ n wait end s shifts made) where
+  -- every row is passed: what is found is the next hold
+  pub going-found : (i : ℕ) (best d : Found) → i ≡ n → Passed wait n (s .lines) i best → d ≡ in-time t end (s .left) best → next-due t (view s) ≡ d
+  going-found i best d =
+      searched s t wait end n i best d (at .lines) (at .waits) (at .ends) (omega (arith, at .lines, at .ranged .full, at .ranged .few))
 
   -- nothing is due any more
   pub going-end : next-due t (view s) ≡ Nothing → _≡_ {A = Served} (record { shifts = shifts; made = made; session = s }) (served-as s₀ (serve (s₀ .left) t (view s₀)))
@@ -73,9 +78,15 @@ module _ {t : Seconds} {s₀ : Session} {end : Seconds} {s : Session} {shifts : 
       = λ i. record { shifts = at .told i; made = at .counted i; session = stands i } in
       made-up ∙ ap (served-as s₀) (sym all)
 
+  -- the shift line that the code writes
+  pub line-is : (x : Due) → Next t (view s) x → record { second = x .second; side = x .side; id = getD (s .lines) (x .place) blank .terms .id } ≡ called (view s) x
+  line-is x o =
+      let h : x .place < s .count = omega (arith, ranged-length (at .ranged), o .place) in
+      rw (getD-take (s .count) (s .lines) (x .place) blank h)
+
   -- one hold served
   pub going-turn : (x : Due) (s′ : Session) (c : ShiftLine) → next-due t (view s) ≡ At x → c ≡ called (view s) x → s′ ≡ put s (shifted (x .side) (x .second) (view s))
-      → Going t s₀ end s′ (set shifts made c) (made + 1)
+      → Going t s₀ n wait end s′ (set shifts made c) (made + 1)
   unfolding shifted
   going-turn x s′ c e ec m =
       let v = view s in
@@ -91,6 +102,8 @@ module _ {t : Seconds} {s₀ : Session} {end : Seconds} {s : Session} {shifts : 
       (record {
         cs = at .cs ++ (b ∷ []);
         ranged = ranged-shifted (x .side) (x .second) (at .ranged) (o .left) (omega (arith, o .before-end, at .ranged .sane .end));
+        lines = size ∙ ranged-length (at .ranged) ∙ at .lines;
+        waits = at .waits;
         ends = at .ends;
         written = ap (λ (z : Session). put z w) (at .written) ∙ put-put s₀ v w size ∙ ap (put s₀) (sym seen);
         now = seen ∙ ap (λ (z : State). onward z b) (at .now) ∙ sym (after-last (at .cs) b (view s₀));

@@ -3,14 +3,12 @@
 ghost use mathlib.Core.Path.{_≡_};
 ghost use Prim.Native.Nat.{_<_};
 ghost use Rattle.method.specs.Shift.{shifted};
-ghost use Rattle.method.specs.Search.{earliest, called, serve};
-ghost use Rattle.corridor.specs.Names.{Nothing};
+ghost use Rattle.method.specs.Search.{serve};
 ghost use Rattle.corridor.specs.View.{view, put, Ranged, Valid};
 ghost use Rattle.corridor.specs.Quiet.{quiet-until};
 ghost use Rattle.corridor.specs.Reply.{served-as};
 use crate::Served;
 use crate::Session;
-use method::Due;
 use method::Found;
 use method::ShiftLine;
 use method::Side;
@@ -34,59 +32,42 @@ impl Session {
         self
     }
 
-    // The hold that goes first, of all that stand: the next one to be served, and what a buffer of events may wait for.
-    fn first(self) -> Found
-        requires { ⌜ Ranged self ⌝ }
-        ensures { λ r. ⌜ r ≡ earliest (self .hold) 0 (view self .lines) Nothing ⌝ }
-    {
-        let n = self.count;
-        let wait = self.hold;
-        let mut best = Found::Nothing;
-        for i in 0..n {
-            let l = self.lines[i];
-            let h = l.holds;
-            best = due::passed(wait, i, h, best);
-        }
-        best
-    }
-
-    // The shift line of a hold: its second, its side, and the id of its line.
-    fn called(self, d: Due) -> ShiftLine
-        requires { ⌜ Ranged self × (d .place < self .count) ⌝ }
-        ensures { λ r. ⌜ r ≡ called (view self) d ⌝ }
-    {
-        let place = d.place;
-        let id = self.lines[place].terms.id;
-        let second = d.second;
-        let side = d.side;
-        ShiftLine {
-            second: second,
-            side: side,
-            id: id,
-        }
-    }
-
     // Every hold that is due at or before t is served. A shift ends holds and starts others, so the search starts anew after each.
     pub(crate) fn served(mut self, t: Seconds) -> Served
         requires { ⌜ Valid self ⌝ }
         ensures { λ r. ⌜ r ≡ served-as self (serve (self .left) t (view self)) ⌝ }
     {
+        let n = self.count;
+        let wait = self.hold;
         let end = self.end;
         let mut shifts = [crate::NO_SHIFT; 16];
         let mut made: usize = 0;
-        loop {
-            let best = self.first();
-            match due::in_time(t, end, self.left, best) {
-                Found::Nothing => break,
-                Found::At(d) => {
-                    let c = self.called(d);
-                    shifts[made] = c;
-                    made = made + 1;
-                    let side = d.side;
-                    let second = d.second;
-                    self = self.shifted(side, second);
+        'serving: loop {
+            let mut best = Found::Nothing;
+            let mut i: usize = 0;
+            let call = loop {
+                if i == n {
+                    match due::in_time(t, end, self.left, best) {
+                        Found::Nothing => break 'serving,
+                        Found::At(c) => break c,
+                    }
                 }
-            }
+                let l = self.lines[i];
+                let h = l.holds;
+                best = due::passed(wait, i, h, best);
+                i = i + 1;
+            };
+            let place = call.place;
+            let l = self.lines[place];
+            let side = call.side;
+            let second = call.second;
+            shifts[made] = ShiftLine {
+                second: second,
+                side: side,
+                id: l.terms.id,
+            };
+            made = made + 1;
+            self = self.shifted(side, second);
         }
         Served {
             shifts: shifts,

@@ -6,14 +6,14 @@ ghost use lib.IntN.{pos};
 ghost use lib.ListN.{length};
 ghost use Rattle.method.specs.Types.{steps};
 ghost use Rattle.method.specs.Event.{limits, place};
-ghost use Rattle.method.specs.Refusals.{event-said, limits-said};
+ghost use Rattle.method.specs.Refusals.{event-said, limits-said, report-said};
 ghost use Rattle.method.specs.Report.{report};
 ghost use Rattle.rows.specs.Buffer.{written};
 ghost use Rattle.corridor.specs.View.{view};
 ghost use Rattle.corridor.specs.Feeding.{fed, fed-into};
 ghost use Rattle.corridor.specs.Closing.{closed, closed-into};
 ghost use Rattle.packed.specs.Packed.{session-in};
-ghost use Rattle.host.specs.Told.{damaged, damaged-count, Tells, reply-in, shift-rows, Leaves, told-into, place-number, number-in};
+ghost use Rattle.host.specs.Told.{damaged, damaged-count, Tells, reply-in, shift-rows, Leaves, told-into, place-number, report-into, number-in};
 use crate::events;
 use crate::questions;
 

@@ -1,76 +1,105 @@
 -- `corridor::Session::served` meets its contract. Assumes nothing.
 use borrow.Author.Needs.{needs}
-use mathlib.Core.Path.{_≡_, _∙_}
+use mathlib.Core.Path.{_≡_, refl, _∙_}
+use Prim.Native.Nat.{_≤_, _-_}
 use native.Mathlib.Omega.{arith}
 use Rattle.method.specs.Shift.{shifted}
 use Rattle.method.specs.Search.{next-due}
 use Rattle.corridor.specs.Names.{At}
 use Rattle.corridor.specs.View.{view}
 use Rattle.corridor.proofs.Views.{ranged-length}
-use Rattle.corridor.proofs.Due.{Next, next-is}
-use Rattle.corridor.proofs.DueServed.{Going, going-start, going-found, going-end, going-turn}
+use Rattle.corridor.proofs.Due.{Passed, row-passes, passed-turn, Next, next-is}
+use Rattle.corridor.proofs.DueServed.{Going, going-start, going-found, going-end, line-is, going-turn}
 use Rattle.corridor.proofs.Session.served.Statement.{statement}
 use Rattle.corridor.proofs.Session.served.Tie as tie
 
 abbrev Inv-loop : tie.InvT-loop
-Inv-loop self₀ t end shifts₀ made₀ self shifts made = Going t self₀ end self shifts made
+Inv-loop t self n wait end shifts made best₀ i₀ best i = (i ≤ n) × Passed wait n (self .lines) i best
 
 abbrev μ-loop : tie.MeasureT-loop
-μ-loop self₀ t end shifts₀ made₀ self shifts made = self .left
+μ-loop t self n wait end shifts made best₀ i₀ best i = n - i
 
-abbrev at-head : tie.After-known-told Inv-loop μ-loop → tie.At-loop Inv-loop μ-loop
-at-head c = c .before .before .before .before .before
+abbrev Inv-serving : tie.InvT-serving
+Inv-serving t self₀ n wait end shifts₀ made₀ self shifts made = Going t self₀ n wait end self shifts made
 
--- the hold that is served is the next one
-found : (c : tie.After-known-told Inv-loop μ-loop) → next-due (at-head c .before .before .args .t) (view (at-head c .loop .self)) ≡ At (c .before .d .given .0 .0)
-found c = going-found (at-head c .loop .inv) _ _ (c .before .before .before .before .first .ensures) (c .before .before .before .in-time .ensures) ∙ c .before .d .given .1
+abbrev μ-serving : tie.MeasureT-serving
+μ-serving t self₀ n wait end shifts₀ made₀ self shifts made = self .left
 
-told : (c : tie.After-known-told Inv-loop μ-loop) → Next (at-head c .before .before .args .t) (view (at-head c .loop .self)) (c .before .d .given .0 .0)
+-- where the inner loop hands a hold over, that is the next one
+found : (c : tie.After-known-told Inv-loop μ-loop Inv-serving μ-serving) → next-due (c .before .before .before .before .before .before .before .before .before .args .t) (view (c .before .before .before .before .before .before .serving .self)) ≡ At (c .before .c .given .0 .0)
+found c = going-found (c .before .before .before .before .before .before .serving .inv) _ _ _ (c .before .before .before .before .if1 .taken) (c .before .before .before .before .before .loop .inv .1) (c .before .before .before .in-time .ensures) ∙ c .before .c .given .1
+
+told : (c : tie.After-known-told Inv-loop μ-loop Inv-serving μ-serving) → Next (c .before .before .before .before .before .before .before .before .before .args .t) (view (c .before .before .before .before .before .before .serving .self)) (c .before .c .given .0 .0)
 told c = next-is _ _ _ (found c)
 
-loop-holds : tie.Need-loop-holds Inv-loop μ-loop
-loop-holds c = going-start _ _ (c .before .pre)
+serving-holds : tie.Need-serving-holds Inv-loop μ-loop Inv-serving μ-serving
+serving-holds c = going-start _ _ (c .before .before .pre)
 
-first-requires : tie.Need-first-requires Inv-loop μ-loop
-first-requires c κs = c .loop .inv .ranged
+loop-holds : tie.Need-loop-holds Inv-loop μ-loop Inv-serving μ-serving
+loop-holds c = (omega arith, refl)
 
-in-time-requires : tie.Need-in-time-requires Inv-loop μ-loop
+in-time-requires : tie.Need-in-time-requires Inv-loop μ-loop Inv-serving μ-serving
 in-time-requires c κs = search needs
 
-enum-told : tie.Need-enum-told Inv-loop μ-loop
+enum-told : tie.Need-enum-told Inv-loop μ-loop Inv-serving μ-serving
 enum-told c = search needs
 
-enum-known-d : tie.Need-enum-known-d Inv-loop μ-loop
-enum-known-d c = search needs
+enum-known-c : tie.Need-enum-known-c Inv-loop μ-loop Inv-serving μ-serving
+enum-known-c c = search needs
 
-called-requires : tie.Need-called-requires Inv-loop μ-loop
-called-requires c κs = let v = at-head c .loop .inv .ranged in (v, omega (arith, told c .place, ranged-length v))
+mul-l : tie.Need-mul-l Inv-loop μ-loop Inv-serving μ-serving
+mul-l c = let g = c .before .before .serving .inv in omega arith
 
-mul-shifts : tie.Need-mul-shifts Inv-loop μ-loop
-mul-shifts c = omega (arith, told (c .before) .left)
+element-copy-out-l : tie.Need-element-copy-out-l Inv-loop μ-loop Inv-serving μ-serving
+element-copy-out-l c = let g = c .before .before .serving .inv in omega arith
 
-array-set-from-shifts : tie.Need-array-set-from-shifts Inv-loop μ-loop
-array-set-from-shifts c = omega (arith, told (c .before) .left)
+passed-requires : tie.Need-passed-requires Inv-loop μ-loop Inv-serving μ-serving
+passed-requires c κs =
+    let g = c .before .before .before .before .serving .inv in
+    row-passes _ (c .before .before .before .loop .i) (g .ranged) (g .waits) (omega arith)
 
-add-made : tie.Need-add-made Inv-loop μ-loop
-add-made c = omega (arith, told (c .before) .left)
+add-i : tie.Need-add-i Inv-loop μ-loop Inv-serving μ-serving
+add-i c = let g = c .before .before .before .before .before .serving .inv in omega arith
 
-shifted-requires : tie.Need-shifted-requires Inv-loop μ-loop
-shifted-requires c κs = (at-head (c .before .before) .loop .inv .ranged, told (c .before .before) .left)
+loop-less : tie.Need-loop-less Inv-loop μ-loop Inv-serving μ-serving
+loop-less c = search needs
 
-loop-less : tie.Need-loop-less Inv-loop μ-loop
+loop-again : tie.Need-loop-again Inv-loop μ-loop Inv-serving μ-serving
+loop-again c =
+    let g = c .before .before .before .before .before .serving .inv in
+    (omega arith, passed-turn _ (c .before .before .before .before .before .before .before .before .args .t1 .count) (c .before .before .before .before .before .serving .self .lines) (c .before .before .before .before .loop .i) _ _ (omega arith) (omega arith) (c .passed .ensures) (c .before .before .before .before .loop .inv .1))
+
+mul-l-2 : tie.Need-mul-l-2 Inv-loop μ-loop Inv-serving μ-serving
+mul-l-2 c = let g = c .before .before .before .before .before .before .serving .inv in omega (arith, told c .place, ranged-length (g .ranged))
+
+element-copy-out-l-2 : tie.Need-element-copy-out-l-2 Inv-loop μ-loop Inv-serving μ-serving
+element-copy-out-l-2 c = let g = c .before .before .before .before .before .before .serving .inv in omega (arith, told c .place, ranged-length (g .ranged))
+
+mul-shifts : tie.Need-mul-shifts Inv-loop μ-loop Inv-serving μ-serving
+mul-shifts c = omega (arith, told (c .before .before) .left)
+
+array-set-from-shifts : tie.Need-array-set-from-shifts Inv-loop μ-loop Inv-serving μ-serving
+array-set-from-shifts c = omega (arith, told (c .before .before) .left)
+
+add-made : tie.Need-add-made Inv-loop μ-loop Inv-serving μ-serving
+add-made c = omega (arith, told (c .before .before) .left)
+
+shifted-requires : tie.Need-shifted-requires Inv-loop μ-loop Inv-serving μ-serving
+shifted-requires c κs = (c .before .before .before .before .before .before .before .before .serving .inv .ranged, told (c .before .before) .left)
+
+serving-less : tie.Need-serving-less Inv-loop μ-loop Inv-serving μ-serving
 unfolding shifted
-loop-less c =
+serving-less c =
     let o = told (c .before .before .before) .left in
     rw (c .shifted .ensures) (omega arith)
 
-loop-again : tie.Need-loop-again Inv-loop μ-loop
-loop-again c = going-turn (at-head (c .before .before .before) .loop .inv) _ _ _ (found (c .before .before .before)) (c .before .before .called .ensures) (c .shifted .ensures)
+serving-again : tie.Need-serving-again Inv-loop μ-loop Inv-serving μ-serving
+serving-again c = going-turn (c .before .before .before .before .before .before .before .before .before .serving .inv) _ _ _ (found (c .before .before .before)) (line-is (c .before .before .before .before .before .before .before .before .before .serving .inv) _ (told (c .before .before .before))) (c .shifted .ensures)
 
-returns : tie.Need-returns Inv-loop μ-loop
+returns : tie.Need-returns Inv-loop μ-loop Inv-serving μ-serving
 returns c =
-    let g = c .before .before .before .before .loop .inv in
-    going-end g (going-found g _ _ (c .before .before .before .first .ensures) (c .before .before .in-time .ensures) ∙ c .enum-told .given .1)
+    let g = c .before .before .before .before .before .serving .inv in
+    going-end g (going-found g _ _ _ (c .before .before .before .if1 .taken) (c .before .before .before .before .loop .inv .1) (c .before .before .in-time .ensures) ∙ c .enum-told .given .1)
 
 pub served-spec : {M : Type 1} → statement M
 served-spec =
@@ -78,16 +107,25 @@ served-spec =
     (tie.spec
     Inv-loop
     μ-loop
+    Inv-serving
+    μ-serving
+    serving-holds
     loop-holds
-    first-requires
     in-time-requires
     enum-told
-    enum-known-d
-    called-requires
+    enum-known-c
+    mul-l
+    element-copy-out-l
+    passed-requires
+    add-i
+    loop-less
+    loop-again
+    mul-l-2
+    element-copy-out-l-2
     mul-shifts
     array-set-from-shifts
     add-made
     shifted-requires
-    loop-less
-    loop-again
+    serving-less
+    serving-again
     returns)

@@ -1,0 +1,22 @@
+-- `host::entry::sundewcup_event` meets its contract, whatever numbers stand in the memory. Assumes nothing.
+use borrow.Author.Needs.{needs}
+use mathlib.Core.Path.{refl}
+use Rattle.soundness.proofs.Deciding.{granted}
+use Rattle.host.proofs.Refusing.{tells, denies}
+use Rattle.host.proofs.entry.sundewcup_event.Statement.{statement}
+use Rattle.host.proofs.entry.sundewcup_event.Tie as tie
+
+sound-requires : tie.Need-sound-requires
+sound-requires c κs = search needs
+
+sundewcup-event-unchecked-requires : tie.Need-sundewcup-event-unchecked-requires
+sundewcup-event-unchecked-requires c κs = granted (c .before .before .before .before .sound .ensures) (c .before .before .before .if1 .taken)
+
+returns : tie.Need-returns
+returns c = (tells (c .before .before .before .before .before .sound .ensures) (c .before .before .before .before .if1 .taken) (c .sundewcup-event-unchecked .ensures .0), (tells (c .before .before .before .before .before .sound .ensures) (c .before .before .before .before .if1 .taken) (c .sundewcup-event-unchecked .ensures .1 .0), (tells (c .before .before .before .before .before .sound .ensures) (c .before .before .before .before .if1 .taken) (c .sundewcup-event-unchecked .ensures .1 .1 .0), tells (c .before .before .before .before .before .sound .ensures) (c .before .before .before .before .if1 .taken) (c .sundewcup-event-unchecked .ensures .1 .1 .1))))
+
+returns-2 : tie.Need-returns-2
+returns-2 c = (denies (c .before .sound .ensures) (c .if1 .left) refl, (denies (c .before .sound .ensures) (c .if1 .left) refl, (denies (c .before .sound .ensures) (c .if1 .left) refl, denies (c .before .sound .ensures) (c .if1 .left) refl)))
+
+pub sundewcup-event-spec : {M : Type 1} → statement M
+sundewcup-event-spec = tie.close (tie.spec sound-requires sundewcup-event-unchecked-requires returns returns-2)

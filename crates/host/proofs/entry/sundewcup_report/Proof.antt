@@ -1,0 +1,22 @@
+-- `host::entry::sundewcup_report` meets its contract, whatever numbers stand in the memory. Assumes nothing.
+use borrow.Author.Needs.{needs}
+use mathlib.Core.Path.{refl}
+use Rattle.soundness.proofs.Deciding.{granted}
+use Rattle.host.proofs.Refusing.{tells, denies}
+use Rattle.host.proofs.entry.sundewcup_report.Statement.{statement}
+use Rattle.host.proofs.entry.sundewcup_report.Tie as tie
+
+sound-requires : tie.Need-sound-requires
+sound-requires c κs = search needs
+
+report-requires : tie.Need-report-requires
+report-requires c κs = granted (c .before .before .sound .ensures) (c .before .if1 .taken)
+
+returns : tie.Need-returns
+returns c = (tells (c .before .before .before .sound .ensures) (c .before .before .if1 .taken) (c .report .ensures .0), tells (c .before .before .before .sound .ensures) (c .before .before .if1 .taken) (c .report .ensures .1))
+
+returns-2 : tie.Need-returns-2
+returns-2 c = (denies (c .before .sound .ensures) (c .if1 .left) refl, denies (c .before .sound .ensures) (c .if1 .left) refl)
+
+pub sundewcup-report-spec : {M : Type 1} → statement M
+sundewcup-report-spec = tie.close (tie.spec sound-requires report-requires returns returns-2)
