@@ -1,7 +1,7 @@
 /*
  * bench.c: times the proved engine, linked as a library, and the second engine on the same events in memory. The proved
- * engine is timed twice: a whole session in one call, and as a host has it, one event a call. All write the same rows into
- * the same kind of buffer, in turn, and the rows are compared.
+ * engine is timed three times: a whole session in one call, and as a host has it, one event a call, without and with the
+ * test of its memory. All write the same rows into the same kind of buffer, in turn, and the rows are compared.
  */
 #include "median.h"
 #include "rows.h"
@@ -18,13 +18,14 @@
 #define NUMBERS ROWS_ROOM((size_t)EVENTS *EVENT_BYTES)
 
 typedef size_t Engine(const Input *input, int64_t *out, size_t out_length);
+typedef int64_t TakesEvent(sundewcup_session *, const uint8_t *, size_t, int64_t *, size_t *);
 
 static size_t library_run(const Input *input, int64_t *out, size_t out_length)
 {
     return sundewcup_run(input->table, input->table_length, input->events, input->events_length, out, out_length);
 }
 
-static size_t host_run(const Input *input, int64_t *out, size_t out_length)
+static size_t by_event(TakesEvent *take, const Input *input, int64_t *out, size_t out_length)
 {
     static sundewcup_session session;
     int64_t line;
@@ -34,7 +35,7 @@ static size_t host_run(const Input *input, int64_t *out, size_t out_length)
     }
     for (size_t at = 0; at < input->events_length; at += EVENT_BYTES) {
         size_t made;
-        int64_t refused = sundewcup_event(&session, input->events + at, EVENT_BYTES, out + count, &made);
+        int64_t refused = take(&session, input->events + at, EVENT_BYTES, out + count, &made);
         if (refused != 0) {
             memcpy(out + count, (const int64_t[ROW_NUMBERS]){ROW_REFUSED_EVENT, refused}, ROW_NUMBERS * sizeof *out);
             made = 1;
@@ -42,6 +43,16 @@ static size_t host_run(const Input *input, int64_t *out, size_t out_length)
         count += made * ROW_NUMBERS;
     }
     return count + sundewcup_close(&session, out + count, out_length - count);
+}
+
+static size_t unchecked_run(const Input *input, int64_t *out, size_t out_length)
+{
+    return by_event(sundewcup_event_unchecked, input, out, out_length);
+}
+
+static size_t checked_run(const Input *input, int64_t *out, size_t out_length)
+{
+    return by_event(sundewcup_event, input, out, out_length);
 }
 
 /* Processor time, so that other work of the machine counts as little as it can. */
@@ -64,7 +75,8 @@ static void bench(uint32_t contract_count, uint8_t *events, int64_t *library_out
 {
     uint8_t table[LONGEST_TABLE];
     double library_times[RUNS];
-    double host_times[RUNS];
+    double unchecked_times[RUNS];
+    double checked_times[RUNS];
     double second_times[RUNS];
     sample_events(events, contract_count);
     Input input = {table, sample_table(table, contract_count), events, (size_t)EVENTS * EVENT_BYTES};
@@ -74,7 +86,9 @@ static void bench(uint32_t contract_count, uint8_t *events, int64_t *library_out
         library_times[run] = nanoseconds_an_event(library_run, &input, library_out, &library_count);
         second_times[run] = nanoseconds_an_event(rows_run, &input, second_out, &second_count);
         hold_together(library_out, library_count, second_out, second_count);
-        host_times[run] = nanoseconds_an_event(host_run, &input, library_out, &library_count);
+        unchecked_times[run] = nanoseconds_an_event(unchecked_run, &input, library_out, &library_count);
+        hold_together(library_out, library_count, second_out, second_count);
+        checked_times[run] = nanoseconds_an_event(checked_run, &input, library_out, &library_count);
         hold_together(library_out, library_count, second_out, second_count);
         if (run == 0) {
             printf("%9u %9zu", contract_count, second_count / ROW_NUMBERS - contract_count);
@@ -82,8 +96,8 @@ static void bench(uint32_t contract_count, uint8_t *events, int64_t *library_out
     }
     double library = median(library_times);
     double second = median(second_times);
-    double host = median(host_times);
-    printf(" %11.1f %11.1f %9.2f %11.1f %9.2f\n", library, second, library / second, host, host / second);
+    printf(" %11.1f %11.1f %9.2f %11.1f %11.1f\n", library, second, library / second, median(unchecked_times),
+           median(checked_times));
 }
 
 int main(void)
@@ -97,7 +111,7 @@ int main(void)
         return EXIT_FAILURE;
     }
     printf("%d events, median of %d, nanoseconds an event\n", EVENTS, RUNS);
-    printf("%9s %9s %11s %11s %9s %11s %9s\n", "contracts", "shifts", "library", "second", "ratio", "by event", "ratio");
+    printf("%9s %9s %11s %11s %9s %11s %11s\n", "contracts", "shifts", "library", "second", "ratio", "unchecked", "by event");
     for (size_t i = 0; i < sizeof contract_counts / sizeof contract_counts[0]; i++) {
         bench(contract_counts[i], events, library_out, second_out);
     }

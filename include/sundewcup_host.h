@@ -5,9 +5,11 @@
  * anywhere else, so two sessions do not know of each other, and a copy of one (memcpy, or a file) is a session that goes on
  * from there by itself, in another process too. `sundewcup_open` fills it; until then it may hold anything.
  *
- * What you must not do, since nothing can be promised then: change the numbers in it; hand a session to any function but
- * `sundewcup_open` before `sundewcup_open` has filled it; hand one to two threads at once, unless all of them only ask
- * (`const`); hand over a null pointer, also where a length is 0; let two arguments overlap.
+ * Memory that holds no session, or one whose numbers were changed by anybody else, is found out: every function but
+ * `sundewcup_open` and the two with `_unchecked` in their names tests all of it first, and refuses it with
+ * SUNDEWCUP_DAMAGED; everything is then as it was. What no function can find out, and you must not do: change a session into
+ * another sound one; hand one to two threads at once, unless all of them only ask (`const`); hand over a null pointer, also
+ * where a length is 0; let two arguments overlap.
  *
  * Answers are numbers: 0 where nothing is refused, or the number of the refusal, the same everywhere:
  *
@@ -18,6 +20,7 @@
  *    5  a field of a contract is out of range               12  the bytes are no event
  *    6  a contract's id is 0 or used on an earlier line     13  no contract has this id
  *    7  a contract's exponent is beyond its cap             14  the quote's bid is above its ask
+ *                                                           99  the memory holds no session, or a damaged one
  *
  * A refused event, 10 to 14, changes nothing: every number of the session is as it was. Prices are in whole minimum steps,
  * times in seconds from session start. A question is answered as of the clock: whoever asks in second t sends a tick at t
@@ -35,6 +38,11 @@ extern "C" {
 
 /* How many numbers a session takes: 33 rows of 21. `sundewcup_session_numbers` says the library's own count. */
 #define SUNDEWCUP_SESSION_NUMBERS 693
+/* The answer to a damaged session, and that of `sundewcup_feed` and `sundewcup_close`, which is more than any buffer has. */
+#define SUNDEWCUP_DAMAGED 99
+#define SUNDEWCUP_DAMAGED_COUNT SIZE_MAX
+/* How many numbers `sundewcup_report` tells of a contract. */
+#define SUNDEWCUP_REPORT_NUMBERS 24
 /* How many numbers a row of an answer has. */
 #define SUNDEWCUP_ROW_NUMBERS 6
 /* The most shifts of a session, and so of one event; and the numbers of their rows. */
@@ -62,7 +70,7 @@ enum { SUNDEWCUP_BELOW = -1, SUNDEWCUP_INSIDE = 0, SUNDEWCUP_ABOVE = 1 };
 int64_t sundewcup_open(sundewcup_session *session, const uint8_t *table, size_t table_length, int64_t *line);
 
 /*
- * One event: 20 bytes (any other bytes are refused with 12). The result is 0, or the number of the refusal, 10 to 14.
+ * One event: 20 bytes (any other bytes are refused with 12). The result is 0, or the number of the refusal, 10 to 14 or 99.
  * *made is how many shifts it made, 0 to 16; each is a row of six numbers in `shifts`, in the order in which they were made:
  *
  *   1  second  side  id  0  0      the second at which its hold fell due, its side (0 up, 1 down), the contract that called
@@ -73,25 +81,48 @@ int64_t sundewcup_event(sundewcup_session *session, const uint8_t *event, size_t
                         int64_t shifts[SUNDEWCUP_SHIFT_NUMBERS], size_t *made);
 
 /*
+ * The same without the test, which costs more than the event: for memory that only these functions have written since
+ * `sundewcup_open` filled it or `sundewcup_check` said 0. Of any other memory nothing is promised.
+ */
+int64_t sundewcup_event_unchecked(sundewcup_session *session, const uint8_t *event, size_t event_length,
+                                  int64_t shifts[SUNDEWCUP_SHIFT_NUMBERS], size_t *made);
+
+/*
  * A buffer of events, 20 bytes each (a last one that is cut short is refused with 12), as if each were handed to
  * `sundewcup_event` in turn, but faster. The answers are rows of six numbers: a shift as above, or
  *
  *   2  number  0  0  0  0          an event that was refused, with its number, 10 to 14
  *
  * The result is how many numbers were written. Where `out_length` is less than SUNDEWCUP_FEED_NUMBERS(events_length), that
- * room is the result, so that it is greater than `out_length`; nothing is written, and the session is what it was.
+ * room is the result, so that it is greater than `out_length`; nothing is written, and the session is what it was. A
+ * damaged session's result is SUNDEWCUP_DAMAGED_COUNT.
  */
 size_t sundewcup_feed(sundewcup_session *session, const uint8_t *events, size_t events_length, int64_t *out,
                       size_t out_length);
 
 /*
  * The limits of a contract: out[0] the lower and out[1] the upper one, out[2] 1 where the lower one is frozen at one step,
- * else 0. The result is 0, or 13, and then `out` is as it was.
+ * else 0. The result is 0, or 13 or 99, and then `out` is as it was.
  */
 int64_t sundewcup_limits(const sundewcup_session *session, uint32_t id, int64_t out[3]);
 
-/* Where an order price lies: SUNDEWCUP_BELOW, SUNDEWCUP_INSIDE (both limits count as inside), SUNDEWCUP_ABOVE; or 13. */
+/* Where an order price lies: SUNDEWCUP_BELOW, SUNDEWCUP_INSIDE (both limits count as inside), SUNDEWCUP_ABOVE; or 13 or 99. */
 int64_t sundewcup_place(const sundewcup_session *session, uint32_t id, int64_t price);
+
+/* The same without the test, as with `sundewcup_event_unchecked`. */
+int64_t sundewcup_place_unchecked(const sundewcup_session *session, uint32_t id, int64_t price);
+
+/*
+ * All that stands on a contract's line. The result is 0, or 13 or 99, and then `out` is as it was. The numbers:
+ *
+ *    0, 1   the lower and the upper limit           12 to 14  the up hold: 1 where it stands, its start, its due second
+ *    2      1 where the lower one is frozen, or 0   15 to 17  the down hold likewise; three times 0 where none stands
+ *    3, 4   the lower and upper interest bound      18, 19    1 and the standing bid, or 0 and 0 where there is none
+ *    5      the centre                              20, 21    1 and the standing ask, or 0 and 0
+ *    6 to 11  the lower and the upper market bound  22        how many shifts the session may still make
+ *           of level 1, of level 2 and of level 3   23        the clock
+ */
+int64_t sundewcup_report(const sundewcup_session *session, uint32_t id, int64_t out[SUNDEWCUP_REPORT_NUMBERS]);
 
 /*
  * What stands at the clock, a row for each contract in the table's order:
@@ -99,9 +130,16 @@ int64_t sundewcup_place(const sundewcup_session *session, uint32_t id, int64_t p
  *   4  id  lower  upper  lower bound  upper bound     its limits, and its interest bounds
  *
  * The result is how many numbers were written. Where `out_length` is less than six a contract, that room is the result, and
- * nothing is written; SUNDEWCUP_CLOSING_NUMBERS is always enough. The session may go on after it.
+ * nothing is written; SUNDEWCUP_CLOSING_NUMBERS is always enough. The session may go on after it. A damaged session's result
+ * is SUNDEWCUP_DAMAGED_COUNT.
  */
 size_t sundewcup_close(const sundewcup_session *session, int64_t *out, size_t out_length);
+
+/*
+ * Whether the memory holds a sound session: 0, or SUNDEWCUP_DAMAGED. It is what every function tests; asked once of a
+ * snapshot that comes from elsewhere, it makes the functions with `_unchecked` safe on it.
+ */
+int64_t sundewcup_check(const sundewcup_session *session);
 
 /* How many numbers of 64 bits the library takes a session to be: SUNDEWCUP_SESSION_NUMBERS. */
 size_t sundewcup_session_numbers(void);

@@ -1,6 +1,6 @@
 /*
  * host.c: the program "host". It gives the same inputs to this engine and to the proved one as a host in C has it: a
- * session in memory of its own, one event after another. It fails at any difference.
+ * session in memory of its own, one event after another, damaged at the end. It fails at any difference.
  *
  *   host FILE..     generated inputs of a fixed seed, and then the files
  */
@@ -27,6 +27,9 @@ typedef enum {
     COMPARED_REFUSED,
     COMPARED_SHORT_ROOM,
     COMPARED_QUESTIONS,
+    COMPARED_REPORTS,
+    COMPARED_UNCHECKED,
+    COMPARED_DAMAGE,
     COMPARISONS
 } Comparison;
 
@@ -37,6 +40,9 @@ static const char *const NAMES[COMPARISONS] = {
     [COMPARED_REFUSED] = "a refused event changes no number",
     [COMPARED_SHORT_ROOM] = "too little room said, nothing done",
     [COMPARED_QUESTIONS] = "limits and places as the closing rows say",
+    [COMPARED_REPORTS] = "all that stands on a line",
+    [COMPARED_UNCHECKED] = "the same without the test of the memory",
+    [COMPARED_DAMAGE] = "damaged memory refused, and left as it was",
 };
 
 typedef struct {
@@ -79,9 +85,15 @@ static bool same(const sundewcup_session *one, const sundewcup_session *other)
 static void take_event(sundewcup_session *session, const uint8_t *event, size_t length, Answer *answer)
 {
     sundewcup_session before = *session;
+    sundewcup_session other = *session;
     int64_t shifts[SUNDEWCUP_SHIFT_NUMBERS];
+    int64_t other_shifts[SUNDEWCUP_SHIFT_NUMBERS];
     size_t made = SIZE_MAX;
+    size_t other_made = SIZE_MAX;
     int64_t refused = sundewcup_event(session, event, length, shifts, &made);
+    int64_t other_refused = sundewcup_event_unchecked(&other, event, length, other_shifts, &other_made);
+    expect(COMPARED_UNCHECKED, refused == other_refused && made == other_made && same(session, &other)
+                                   && memcmp(shifts, other_shifts, made * ROW_NUMBERS * sizeof *shifts) == 0);
     if (refused != 0) {
         expect(COMPARED_REFUSED, made == 0 && same(session, &before));
         add(answer, (const int64_t[ROW_NUMBERS]){ROW_REFUSED_EVENT, refused}, ROW_NUMBERS);
@@ -158,6 +170,8 @@ static void ask(const sundewcup_session *session, const int64_t *row)
     good = good && sundewcup_place(session, id, row[2] - 1) == SUNDEWCUP_BELOW;
     good = good && sundewcup_place(session, id, row[2]) == SUNDEWCUP_INSIDE;
     good = good && sundewcup_place(session, id, row[3]) == SUNDEWCUP_INSIDE;
+    expect(COMPARED_UNCHECKED, sundewcup_place_unchecked(session, id, row[3]) == SUNDEWCUP_INSIDE
+                                   && sundewcup_place_unchecked(session, id, row[3] + 1) == SUNDEWCUP_ABOVE);
     expect(COMPARED_QUESTIONS, good && sundewcup_place(session, id, row[3] + 1) == SUNDEWCUP_ABOVE);
 }
 
@@ -171,6 +185,94 @@ static void ask_all(const sundewcup_session *session, const Answer *answer)
     }
     bool good = sundewcup_limits(session, 0, limits) == 13 && limits[0] == 7 && limits[1] == 8 && limits[2] == 9;
     expect(COMPARED_QUESTIONS, good && sundewcup_place(session, 0, 1) == 13);
+}
+
+/* ---- Reports, against the second engine's own lines ---- */
+
+static int64_t *put_hold(int64_t *next, const Session *second, Side side, uint32_t place)
+{
+    uint32_t due = second->due[side][place].seconds;
+    bool stands = due != NEVER.seconds;
+    *next++ = stands;
+    *next++ = stands ? due - second->hold.seconds : 0;
+    *next++ = stands ? due : 0;
+    return next;
+}
+
+static void ask_report(const sundewcup_session *session, const Session *second, uint32_t place)
+{
+    const Line *line = &second->lines[place];
+    int64_t wanted[SUNDEWCUP_REPORT_NUMBERS] = {line->limits.lower.steps,   line->limits.upper.steps,   line->lower_frozen,
+                                                line->interest.lower.steps, line->interest.upper.steps, line->centre.steps};
+    int64_t *next = wanted + 6;
+    for (int level = 0; level < LEVELS; level++) {
+        *next++ = line->centre.steps - line->half_width[level].steps;
+        *next++ = line->centre.steps + line->half_width[level].steps;
+    }
+    next = put_hold(put_hold(next, second, SIDE_UP, place), second, SIDE_DOWN, place);
+    *next++ = line->has_bid;
+    *next++ = line->has_bid ? line->bid.steps : 0;
+    *next++ = line->has_ask;
+    *next++ = line->has_ask ? line->ask.steps : 0;
+    *next++ = second->most_shifts - second->shifts_made;
+    *next++ = second->clock.seconds;
+    int64_t out[SUNDEWCUP_REPORT_NUMBERS];
+    bool good = sundewcup_report(session, line->id, out) == 0;
+    expect(COMPARED_REPORTS, good && memcmp(out, wanted, sizeof out) == 0);
+}
+
+static void ask_reports(const sundewcup_session *session, const Input *input)
+{
+    Session second;
+    if (corridor_open(input->table, input->table_length, &second).kind == REFUSED) {
+        return;
+    }
+    for (size_t at = 0; at < input->events_length; at += EVENT_BYTES) {
+        EventAnswer answer;
+        corridor_event(&second, input->events + at, input_event_length(input->events_length - at), &answer);
+    }
+    for (uint32_t place = 0; place < second.line_count; place++) {
+        ask_report(session, &second, place);
+    }
+    int64_t out[SUNDEWCUP_REPORT_NUMBERS] = {7};
+    expect(COMPARED_REPORTS, sundewcup_report(session, 0, out) == 13 && out[0] == 7);
+}
+
+/* ---- Damage ---- */
+
+static size_t damaged_sessions;
+
+static void expect_refused(sundewcup_session *session, const uint8_t *event)
+{
+    sundewcup_session before = *session;
+    int64_t out[SUNDEWCUP_FEED_NUMBERS(EVENT_BYTES)] = {7};
+    size_t made = SIZE_MAX;
+    bool good = sundewcup_event(session, event, EVENT_BYTES, out, &made) == SUNDEWCUP_DAMAGED && made == 0;
+    good = good && sundewcup_feed(session, event, EVENT_BYTES, out, SUNDEWCUP_FEED_NUMBERS(EVENT_BYTES)) == SUNDEWCUP_DAMAGED_COUNT;
+    good = good && sundewcup_close(session, out, SUNDEWCUP_FEED_NUMBERS(EVENT_BYTES)) == SUNDEWCUP_DAMAGED_COUNT;
+    good = good && sundewcup_limits(session, 7, out) == SUNDEWCUP_DAMAGED;
+    good = good && sundewcup_place(session, 7, 1000) == SUNDEWCUP_DAMAGED;
+    good = good && sundewcup_report(session, 7, out) == SUNDEWCUP_DAMAGED;
+    expect(COMPARED_DAMAGE, good && out[0] == 7 && same(session, &before));
+}
+
+/* One number of the session is changed. Where that makes another sound session it has to go on as one. */
+static void damage(sundewcup_session *session, uint64_t number)
+{
+    static const uint8_t event[EVENT_BYTES] = {[0] = 1, [8] = 4};
+    Random random = {number};
+    size_t place = (size_t)between(&random, 0, SUNDEWCUP_SESSION_NUMBERS - 1);
+    uint64_t with[] = {0, 1, session->opaque[place] + 1, session->opaque[place] ^ 2, UINT64_MAX, (uint64_t)between(&random, 0, 1 << 30)};
+    session->opaque[place] = with[between(&random, 0, sizeof with / sizeof with[0] - 1)];
+    if (sundewcup_check(session) == 0) {
+        int64_t shifts[SUNDEWCUP_SHIFT_NUMBERS];
+        size_t made;
+        expect(COMPARED_DAMAGE, sundewcup_event(session, event, EVENT_BYTES, shifts, &made) != SUNDEWCUP_DAMAGED);
+        expect(COMPARED_DAMAGE, sundewcup_check(session) == 0);
+    } else {
+        damaged_sessions++;
+        expect_refused(session, event);
+    }
 }
 
 /* ---- Many inputs ---- */
@@ -194,6 +296,9 @@ static void take(const uint8_t *bytes, size_t length, uint64_t number)
     }
     expect(COMPARED_FEED, same(one, other));
     ask_all(one, &events);
+    ask_reports(one, &input);
+    expect(COMPARED_DAMAGE, sundewcup_check(one) == 0);
+    damage(one, number);
     free(one);
     free(other);
 }
@@ -221,7 +326,10 @@ int main(int count, char **words)
     for (int i = 1; i < count; i++) {
         take_file(words[i], (uint64_t)i);
     }
-    printf("%d inputs, %d of them files\n", INPUTS + count - 1, count - 1);
+    sundewcup_session *unfilled = make_session();
+    expect(COMPARED_DAMAGE, sundewcup_check(unfilled) == SUNDEWCUP_DAMAGED && damaged_sessions > INPUTS / 10);
+    free(unfilled);
+    printf("%d inputs, %d of them files; %zu sessions damaged\n", INPUTS + count - 1, count - 1, damaged_sessions);
     for (int i = 0; i < COMPARISONS; i++) {
         if (differ[i]) {
             printf("different: %s\n", NAMES[i]);

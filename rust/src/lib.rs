@@ -18,7 +18,8 @@
 //! # Ok::<(), Box<dyn std::error::Error>>(())
 //! ```
 //!
-//! What is proved and what a host must not do is in docs/HOSTS.md. Safe Rust cannot break it: a [`Session`] keeps its numbers to itself.
+//! What is proved and what a host must not do is in docs/HOSTS.md. Safe Rust cannot break it: a [`Session`] hands out a copy of its
+//! numbers, and takes none back that it does not find sound.
 
 mod library;
 
@@ -193,6 +194,67 @@ pub struct Limits {
     pub frozen: bool,
 }
 
+/// A hold: since when a line presses, and when it falls due.
+#[derive(Clone, Copy, Debug, PartialEq, Eq)]
+pub struct Hold {
+    pub start: u32,
+    pub due: u32,
+}
+
+/// A lower and an upper bound.
+#[derive(Clone, Copy, Debug, PartialEq, Eq)]
+pub struct Bounds {
+    pub lower: i64,
+    pub upper: i64,
+}
+
+/// All that stands on a contract's line. `market` has the bounds of levels 1 to 3.
+#[derive(Clone, Copy, Debug, PartialEq, Eq)]
+pub struct Report {
+    pub limits: Limits,
+    pub interest: Bounds,
+    pub centre: i64,
+    pub market: [Bounds; 3],
+    pub up: Option<Hold>,
+    pub down: Option<Hold>,
+    pub bid: Option<i64>,
+    pub ask: Option<i64>,
+    pub shifts_left: u32,
+    pub clock: u32,
+}
+
+impl Report {
+    fn of(out: &[i64; library::REPORT_NUMBERS]) -> Report {
+        let bounds = |at: usize| Bounds { lower: out[at], upper: out[at + 1] };
+        let hold = |at: usize| (out[at] != 0).then(|| Hold { start: small(out[at + 1]), due: small(out[at + 2]) });
+        let price = |at: usize| (out[at] != 0).then_some(out[at + 1]);
+        Report {
+            limits: Limits { lower: out[0], upper: out[1], frozen: out[2] != 0 },
+            interest: bounds(3),
+            centre: out[5],
+            market: [bounds(6), bounds(8), bounds(10)],
+            up: hold(12),
+            down: hold(15),
+            bid: price(18),
+            ask: price(20),
+            shifts_left: small(out[22]),
+            clock: small(out[23]),
+        }
+    }
+}
+
+/// Numbers that are no session, or a damaged one.
+#[derive(Clone, Copy, Debug, PartialEq, Eq)]
+pub struct Damaged;
+
+impl fmt::Display for Damaged {
+    fn fmt(&self, f: &mut fmt::Formatter<'_>) -> fmt::Result {
+        f.write_str("the numbers are no session, or a damaged one")
+    }
+}
+
+impl Error for Damaged {}
+
 /// A session. A clone is a snapshot that goes on by itself.
 #[derive(Clone, PartialEq, Eq)]
 pub struct Session {
@@ -213,6 +275,30 @@ impl Session {
         match Refusal::of(number) {
             None => Ok(Session { numbers }),
             Some(refusal) => Err(RefusedTable { refusal, line: small(line) }),
+        }
+    }
+
+    /// A snapshot, for another process to take over by [`Session::from_numbers`].
+    pub fn numbers(&self) -> [u64; library::SESSION_NUMBERS] {
+        *self.numbers
+    }
+
+    /// The session of a snapshot. Numbers that were changed on the way are refused, unless they are another sound session.
+    ///
+    /// ```
+    /// # let input = std::fs::read(concat!(env!("CARGO_MANIFEST_DIR"), "/../examples/starred"))?;
+    /// use sundewcup::{Damaged, Session};
+    /// let session = Session::open(&input[..88])?;
+    /// let mut numbers = session.numbers();
+    /// assert_eq!(Session::from_numbers(numbers), Ok(session));
+    /// numbers[0] = 0;
+    /// assert_eq!(Session::from_numbers(numbers), Err(Damaged));
+    /// # Ok::<(), Box<dyn std::error::Error>>(())
+    /// ```
+    pub fn from_numbers(numbers: [u64; library::SESSION_NUMBERS]) -> Result<Session, Damaged> {
+        match library::check(&numbers) {
+            0 => Ok(Session { numbers: Box::new(numbers) }),
+            _ => Err(Damaged),
         }
     }
 
@@ -252,6 +338,12 @@ impl Session {
             None => Ok(Limits { lower: out[0], upper: out[1], frozen: out[2] != 0 }),
             Some(refusal) => Err(refusal),
         }
+    }
+
+    /// All that stands on a contract's line, as of the last event's second.
+    pub fn report(&self, id: u32) -> Result<Report, Refusal> {
+        let mut out = [0; library::REPORT_NUMBERS];
+        Refusal::of(library::report(&self.numbers, id, &mut out)).map_or_else(|| Ok(Report::of(&out)), Err)
     }
 }
 
@@ -314,6 +406,18 @@ mod tests {
             assert_eq!(answers, other.feed(events));
             assert_eq!(one, other);
         }
+    }
+
+    #[test]
+    fn a_report_says_what_the_other_questions_say() {
+        let input = example("starred");
+        let (table, events) = parts(&input);
+        let mut session = Session::open(table).expect("a good table");
+        session.feed(events);
+        let report = session.report(7).expect("a known contract");
+        assert_eq!(report.limits, session.limits(7).expect("a known contract"));
+        assert!(report.interest.lower <= report.limits.lower && report.limits.upper <= report.interest.upper);
+        assert_eq!(session.report(8), Err(Refusal::UnknownId));
     }
 
     #[test]

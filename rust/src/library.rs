@@ -1,13 +1,13 @@
 //! The functions of libhost.a, as include/sundewcup_host.h has them. Nothing else in this package is `unsafe`.
 
-
 /// Numbers of a session, and of all shift rows of one event.
 pub const SESSION_NUMBERS: usize = 693;
 pub const SHIFT_NUMBERS: usize = 96;
+pub const REPORT_NUMBERS: usize = 24;
 
 extern "C" {
     fn sundewcup_open(session: *mut [u64; SESSION_NUMBERS], table: *const u8, length: usize, line: *mut i64) -> i64;
-    fn sundewcup_event(
+    fn sundewcup_event_unchecked(
         session: *mut [u64; SESSION_NUMBERS],
         event: *const u8,
         length: usize,
@@ -22,10 +22,11 @@ extern "C" {
         room: usize,
     ) -> usize;
     fn sundewcup_limits(session: *const [u64; SESSION_NUMBERS], id: u32, out: *mut [i64; 3]) -> i64;
-    fn sundewcup_place(session: *const [u64; SESSION_NUMBERS], id: u32, price: i64) -> i64;
+    fn sundewcup_place_unchecked(session: *const [u64; SESSION_NUMBERS], id: u32, price: i64) -> i64;
+    fn sundewcup_report(session: *const [u64; SESSION_NUMBERS], id: u32, out: *mut [i64; REPORT_NUMBERS]) -> i64;
+    fn sundewcup_check(session: *const [u64; SESSION_NUMBERS]) -> i64;
     fn sundewcup_session_numbers() -> usize;
 }
-
 
 /// The number of the refusal or 0, and its line. The session is sound afterwards in any case.
 pub fn open(session: &mut [u64; SESSION_NUMBERS], table: &[u8]) -> (i64, i64) {
@@ -35,11 +36,11 @@ pub fn open(session: &mut [u64; SESSION_NUMBERS], table: &[u8]) -> (i64, i64) {
     (number, line)
 }
 
-/// The number of the refusal or 0, and how many shift rows were written. The session is one that `open` made.
+/// The number of the refusal or 0, and how many shift rows were written. The session is one that `open` made or `check` found sound.
 pub fn event(session: &mut [u64; SESSION_NUMBERS], event: &[u8], shifts: &mut [i64; SHIFT_NUMBERS]) -> (i64, usize) {
     let mut made = 0;
     // SAFETY: as in `open`; that the session is sound holds since only these functions change one (`Session` keeps it to itself).
-    let number = unsafe { sundewcup_event(session, event.as_ptr(), event.len(), shifts, &mut made) };
+    let number = unsafe { sundewcup_event_unchecked(session, event.as_ptr(), event.len(), shifts, &mut made) };
     (number, made)
 }
 
@@ -56,7 +57,18 @@ pub fn limits(session: &[u64; SESSION_NUMBERS], id: u32, out: &mut [i64; 3]) -> 
 
 pub fn place(session: &[u64; SESSION_NUMBERS], id: u32, price: i64) -> i64 {
     // SAFETY: as in `limits`.
-    unsafe { sundewcup_place(session, id, price) }
+    unsafe { sundewcup_place_unchecked(session, id, price) }
+}
+
+pub fn report(session: &[u64; SESSION_NUMBERS], id: u32, out: &mut [i64; REPORT_NUMBERS]) -> i64 {
+    // SAFETY: as in `limits`.
+    unsafe { sundewcup_report(session, id, out) }
+}
+
+/// 0 where the numbers are a sound session.
+pub fn check(session: &[u64; SESSION_NUMBERS]) -> i64 {
+    // SAFETY: the session is only read, and may be any numbers.
+    unsafe { sundewcup_check(session) }
 }
 
 /// How many numbers the library takes a session to be.

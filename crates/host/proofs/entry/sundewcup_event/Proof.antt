@@ -13,7 +13,7 @@ sundewcup-event-unchecked-requires : tie.Need-sundewcup-event-unchecked-requires
 sundewcup-event-unchecked-requires c κs = granted (c .before .before .before .before .sound .ensures) (c .before .before .before .if1 .taken)
 
 returns : tie.Need-returns
-returns c = (tells (c .before .before .before .before .before .sound .ensures) (c .before .before .before .before .if1 .taken) (c .sundewcup-event-unchecked .ensures .0), (tells (c .before .before .before .before .before .sound .ensures) (c .before .before .before .before .if1 .taken) (c .sundewcup-event-unchecked .ensures .1 .0), (tells (c .before .before .before .before .before .sound .ensures) (c .before .before .before .before .if1 .taken) (c .sundewcup-event-unchecked .ensures .1 .1 .0), tells (c .before .before .before .before .before .sound .ensures) (c .before .before .before .before .if1 .taken) (c .sundewcup-event-unchecked .ensures .1 .1 .1))))
+returns c = (tells (c .before .before .before .before .before .sound .ensures) (c .before .before .before .before .if1 .taken) (search needs), (tells (c .before .before .before .before .before .sound .ensures) (c .before .before .before .before .if1 .taken) (search needs), (tells (c .before .before .before .before .before .sound .ensures) (c .before .before .before .before .if1 .taken) (search needs), tells (c .before .before .before .before .before .sound .ensures) (c .before .before .before .before .if1 .taken) (search needs))))
 
 returns-2 : tie.Need-returns-2
 returns-2 c = (denies (c .before .sound .ensures) (c .if1 .left) refl, (denies (c .before .sound .ensures) (c .if1 .left) refl, (denies (c .before .sound .ensures) (c .if1 .left) refl, denies (c .before .sound .ensures) (c .if1 .left) refl)))

@@ -13,7 +13,7 @@ limits-requires : tie.Need-limits-requires
 limits-requires c κs = granted (c .before .before .sound .ensures) (c .before .if1 .taken)
 
 returns : tie.Need-returns
-returns c = (tells (c .before .before .before .sound .ensures) (c .before .before .if1 .taken) (c .limits .ensures .0), tells (c .before .before .before .sound .ensures) (c .before .before .if1 .taken) (c .limits .ensures .1))
+returns c = (tells (c .before .before .before .sound .ensures) (c .before .before .if1 .taken) (search needs), tells (c .before .before .before .sound .ensures) (c .before .before .if1 .taken) (search needs))
 
 returns-2 : tie.Need-returns-2
 returns-2 c = (denies (c .before .sound .ensures) (c .if1 .left) refl, denies (c .before .sound .ensures) (c .if1 .left) refl)

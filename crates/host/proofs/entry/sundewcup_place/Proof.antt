@@ -1,7 +1,15 @@
 -- `host::entry::sundewcup_place` meets its contract, whatever numbers stand in the memory. Assumes nothing.
 use borrow.Author.Needs.{needs}
-use mathlib.Core.Path.{refl}
+use mathlib.Core.Path.{refl, ap, _∙_}
+use denote.Ref.{now}
+use lib.IntN.{ℤ}
+use mir.Facts.{toZ-ofZ}
+use Rattle.method.specs.Types.{steps}
+use Rattle.method.specs.Event.{place}
 use Rattle.soundness.proofs.Deciding.{granted}
+use Rattle.corridor.specs.View.{view}
+use Rattle.packed.specs.Packed.{session-in}
+use Rattle.host.specs.Told.{place-number}
 use Rattle.host.proofs.Refusing.{tells, denies}
 use Rattle.host.proofs.entry.sundewcup_place.Statement.{statement}
 use Rattle.host.proofs.entry.sundewcup_place.Tie as tie
@@ -13,7 +21,11 @@ sundewcup-place-unchecked-requires : tie.Need-sundewcup-place-unchecked-requires
 sundewcup-place-unchecked-requires c κs = granted (c .before .sound .ensures) (c .if1 .taken)
 
 returns : tie.Need-returns
-returns c = tells (c .before .before .sound .ensures) (c .before .if1 .taken) (c .sundewcup-place-unchecked .ensures)
+returns c =
+    let s = c .before .before .before in
+    tells (c .before .before .sound .ensures) (c .before .if1 .taken)
+    ((search needs) ∙ c .sundewcup-place-unchecked .ensures
+    ∙ ap (λ (z : ℤ). place-number (place (s .args .id) (steps z) (view (session-in (now (s .args .session)))))) (toZ-ofZ (s .fits .price)))
 
 returns-2 : tie.Need-returns-2
 returns-2 c = denies (c .before .sound .ensures) (c .if1 .left) refl
