@@ -60,12 +60,21 @@ screen-requires c κs = subst Distinct (sym (c .before .ids .ensures .1)) (c .be
 enum-known-why : tie.Need-enum-known-why
 enum-known-why c = search needs
 
-enum-known-v : tie.Need-enum-known-v
-enum-known-v c = search needs
-
 -- ---- what the verdict says
 said : (c : tie.After-screen) → Says (view (from-screen c .args .self)) (read (now (from-screen c .args .bytes))) (c .screen .result)
 said c = session-says (from-screen c .args .self) (c .before .before .ids .ensures .1) (c .before .before .before .read .ensures) (c .screen .ensures)
+
+-- ---- a refusal
+returns : tie.Need-returns
+returns c =
+    let seen = c .before .before .before in
+    let s = from-screen seen in
+    refused-is (s .args .self) (read (now (s .args .bytes))) _
+    (subst (Says (view (s .args .self)) (read (now (s .args .bytes)))) (c .before .why .given .1) (said seen))
+
+-- ---- an event that is taken
+enum-known-v : tie.Need-enum-known-v
+enum-known-v c = search needs
 
 takes : (c : tie.After-t) → Takes (view (from-taken c .args .self)) (read (now (from-taken c .args .bytes))) (taken c)
 takes c =
@@ -114,14 +123,7 @@ mul-m c = omega (arith, below (c .before .before .before .before))
 element-set-from-m : tie.Need-element-set-from-m
 element-set-from-m c = below (c .before .before .before .before)
 
--- ---- the two answers
-returns : tie.Need-returns
-returns c =
-    let seen = c .before .before .before in
-    let s = from-screen seen in
-    refused-is (s .args .self) (read (now (s .args .bytes))) _
-    (subst (Says (view (s .args .self)) (read (now (s .args .bytes)))) (c .before .why .given .1) (said seen))
-
+-- ---- the answer to an event that is taken
 returns-2 : tie.Need-returns-2
 returns-2 c =
     let at = c .before .before .before in
