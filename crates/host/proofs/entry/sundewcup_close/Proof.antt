@@ -16,10 +16,16 @@ same-length : tie.Need-same-length
 same-length c = search needs
 
 returns : tie.Need-returns
-returns c = (tells (c .before .before .before .before .sound .ensures) (c .before .before .before .if1 .taken) (c .before .close .ensures .0), tells (c .before .before .before .before .sound .ensures) (c .before .before .before .if1 .taken) (c .before .close .ensures .1))
+returns c =
+    let d = c .before .before .before .before .sound .ensures in
+    let e = c .before .before .before .if1 .taken in
+    (tells d e (c .before .close .ensures .0), tells d e (c .before .close .ensures .1))
 
 returns-2 : tie.Need-returns-2
-returns-2 c = (denies (c .before .sound .ensures) (c .if1 .left) refl, denies (c .before .sound .ensures) (c .if1 .left) refl)
+returns-2 c =
+    let d = c .before .sound .ensures in
+    let e = c .if1 .left in
+    (denies d e refl, denies d e refl)
 
 pub sundewcup-close-spec : {M : Type 1} → statement M
 sundewcup-close-spec = tie.close (tie.spec sound-requires close-requires same-length returns returns-2)

@@ -13,10 +13,16 @@ report-requires : tie.Need-report-requires
 report-requires c κs = granted (c .before .before .sound .ensures) (c .before .if1 .taken)
 
 returns : tie.Need-returns
-returns c = (tells (c .before .before .before .sound .ensures) (c .before .before .if1 .taken) (search needs), tells (c .before .before .before .sound .ensures) (c .before .before .if1 .taken) (search needs))
+returns c =
+    let d = c .before .before .before .sound .ensures in
+    let e = c .before .before .if1 .taken in
+    (tells d e (search needs), tells d e (search needs))
 
 returns-2 : tie.Need-returns-2
-returns-2 c = (denies (c .before .sound .ensures) (c .if1 .left) refl, denies (c .before .sound .ensures) (c .if1 .left) refl)
+returns-2 c =
+    let d = c .before .sound .ensures in
+    let e = c .if1 .left in
+    (denies d e refl, denies d e refl)
 
 pub sundewcup-report-spec : {M : Type 1} → statement M
 sundewcup-report-spec = tie.close (tie.spec sound-requires report-requires returns returns-2)
