@@ -63,6 +63,20 @@ static double nanoseconds_an_event(Engine *engine, const Input *input, int64_t *
     return (double)(clock() - start) * (1e9 / CLOCKS_PER_SEC) / EVENTS;
 }
 
+/* What the host's times are held to: a session of some 4 kB that goes out of the memory and back would cost a copy each way. */
+static double nanoseconds_a_copy(void)
+{
+    enum { BYTES = 4096, COPIES = 1000000 };
+    static volatile unsigned char from[BYTES];
+    static volatile unsigned char to[BYTES];
+    clock_t start = clock();
+    for (int i = 0; i < COPIES; i++) {
+        from[i % BYTES] = (unsigned char)i;
+        memcpy((void *)(uintptr_t)to, (const void *)(uintptr_t)from, BYTES);
+    }
+    return (double)(clock() - start) * (1e9 / CLOCKS_PER_SEC) / COPIES;
+}
+
 static void hold_together(const int64_t *library_out, size_t library_count, const int64_t *second_out, size_t second_count)
 {
     if (library_count != second_count || memcmp(library_out, second_out, second_count * sizeof(int64_t)) != 0) {
@@ -110,7 +124,7 @@ int main(void)
         puts("no memory");
         return EXIT_FAILURE;
     }
-    printf("%d events, median of %d, nanoseconds an event\n", EVENTS, RUNS);
+    printf("%d events, median of %d, nanoseconds an event; a copy of 4096 bytes: %.1f\n", EVENTS, RUNS, nanoseconds_a_copy());
     printf("%9s %9s %11s %11s %9s %11s %11s\n", "contracts", "shifts", "library", "second", "ratio", "unchecked", "by event");
     for (size_t i = 0; i < sizeof contract_counts / sizeof contract_counts[0]; i++) {
         bench(contract_counts[i], events, library_out, second_out);

@@ -256,12 +256,14 @@ static void expect_refused(sundewcup_session *session, const uint8_t *event)
     expect(COMPARED_DAMAGE, good && out[0] == 7 && same(session, &before));
 }
 
-/* One number of the session is changed. Where that makes another sound session it has to go on as one. */
+/* One number of the first line or of the last row is changed; the rows of no contract say nothing. Where that makes another
+   sound session it has to go on as one. */
 static void damage(sundewcup_session *session, uint64_t number)
 {
     static const uint8_t event[EVENT_BYTES] = {[0] = 1, [8] = 4};
     Random random = {number};
-    size_t place = (size_t)between(&random, 0, SUNDEWCUP_SESSION_NUMBERS - 1);
+    size_t among = (size_t)between(&random, 0, 26);
+    size_t place = among < 21 ? among : 32 * 21 + among - 21;
     uint64_t with[] = {0, 1, session->opaque[place] + 1, session->opaque[place] ^ 2, UINT64_MAX, (uint64_t)between(&random, 0, 1 << 30)};
     session->opaque[place] = with[between(&random, 0, sizeof with / sizeof with[0] - 1)];
     if (sundewcup_check(session) == 0) {
@@ -327,7 +329,7 @@ int main(int count, char **words)
         take_file(words[i], (uint64_t)i);
     }
     sundewcup_session *unfilled = make_session();
-    expect(COMPARED_DAMAGE, sundewcup_check(unfilled) == SUNDEWCUP_DAMAGED && damaged_sessions > INPUTS / 10);
+    expect(COMPARED_DAMAGE, sundewcup_check(unfilled) == SUNDEWCUP_DAMAGED && damaged_sessions > INPUTS / 4);
     free(unfilled);
     printf("%d inputs, %d of them files; %zu sessions damaged\n", INPUTS + count - 1, count - 1, damaged_sessions);
     for (int i = 0; i < COMPARISONS; i++) {

@@ -6,9 +6,6 @@ use Prim.Native.Nat.{ℕ}
 use lib.Dec.{eqb}
 use lib.IntN.{ℤ, pos, negsuc}
 use lib.ListN.{take}
-use Rattle.method.specs.Types.{State, demand}
-use Rattle.method.specs.Opening.{known}
-use Rattle.method.specs.Event.{line-of}
 use Rattle.method.specs.Refusals.{Said, event-number}
 use Rattle.method.specs.Program.{numbers-of}
 use Rattle.method.specs.declared.Row.the-variants as Row
@@ -33,7 +30,6 @@ use Rattle.host.specs.Names.{
   ReportAnswer,
   Session,
 }
-use Rattle.host.specs.declared.questions.Sought.{Sought}
 use Rattle.host.specs.declared.reporting.HoldNumbers.{HoldNumbers}
 use Rattle.host.specs.declared.reporting.PriceNumbers.{PriceNumbers}
 use Rattle.packed.specs.Packed.{session-in}
@@ -72,10 +68,6 @@ pub record Leaves (number : ℤ) (before after : List (List ℕ)) (s : Session) 
   pub untouched : (number ≡ pos 0 → ⊥) → after ≡ before
 
 -- ---- questions
--- the line of an id
-unfoldable pub sought : ℕ → State → Sought
-sought id s = demand (known id (s .lines)) Sought.Nowhere (Sought.At (line-of id (s .lines)))
-
 -- the values of an answer, where nothing is refused
 abbrev pub told-into : List ℤ → Said → List ℤ
 told-into out said = cond (eqb (said .number) 0) (said .values) out

@@ -9,9 +9,11 @@ ghost use Rattle.method.specs.Refusals.{limits-said, report-said};
 ghost use Rattle.method.specs.Report.{line-report, report};
 ghost use Rattle.method.specs.Ranges.{Room};
 ghost use Rattle.corridor.specs.View.{view, Valid};
+ghost use Rattle.corridor.specs.Asked.{sought};
 ghost use Rattle.packed.specs.Packed.{session-in};
-ghost use Rattle.host.specs.Told.{sought, told-into, place-number, report-into};
+ghost use Rattle.host.specs.Told.{told-into, place-number, report-into};
 use crate::reporting;
+use corridor::questions::Sought;
 use method::EventReason;
 use method::Line;
 use method::PlaceAnswer;
@@ -20,11 +22,6 @@ use method::Row;
 use numbers::Seconds;
 use numbers::Steps;
 use packed::reading;
-
-pub enum Sought {
-    At(Line),
-    Nowhere,
-}
 
 // The line that has the id.
 fn found(session: &[[u64; 21]; 33], id: u32) -> Sought

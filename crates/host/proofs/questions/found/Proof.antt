@@ -10,10 +10,10 @@ use Prim.Native.Nat.{_-_}
 use native.Mathlib.Omega.{arith}
 use denote.Ref.{now}
 use Rattle.corridor.proofs.Named.{Walk, walk-start, walk-met, walk-turn, walk-all}
-use Rattle.host.specs.declared.questions.Sought.{Sought}
+use Rattle.corridor.specs.declared.questions.Sought.{Sought}
 use Rattle.packed.specs.Packed.{session-in}
 use Rattle.packed.proofs.Places.{count-is, line-at}
-use Rattle.host.proofs.Asking.{sought-met, sought-unmet}
+use Rattle.corridor.proofs.Asking.{sought-met, sought-unmet}
 use Rattle.host.proofs.questions.found.Statement.{statement}
 use Rattle.host.proofs.questions.found.Tie as tie
 

@@ -4,9 +4,10 @@ use mathlib.Core.Path.{sym, _∙_}
 use denote.Ref.{now}
 use Rattle.method.specs.Event.{limits}
 use Rattle.corridor.specs.View.{view}
-use Rattle.host.specs.declared.questions.Sought.{Sought}
+use Rattle.corridor.specs.declared.questions.Sought.{Sought}
 use Rattle.packed.specs.Packed.{session-in}
-use Rattle.host.proofs.Asking.{limits-by, limits-none, limits-some}
+use Rattle.corridor.proofs.Asking.{limits-by}
+use Rattle.host.proofs.Asking.{limits-none, limits-some}
 use Rattle.host.proofs.questions.limits.Statement.{statement}
 use Rattle.host.proofs.questions.limits.Tie as tie
 
@@ -25,13 +26,13 @@ mark-number-requires c κs = search needs
 returns : tie.Need-returns
 returns c =
     let id = c .before .before .before .args .id in
-    limits-none (limits id (view (session-in (now (c .before .before .before .args .session))))) (now (c .before .before .before .args .out)) (limits-by (view (session-in (now (c .before .before .before .args .session)))) id Sought.Nowhere (sym (c .enum-told .given .1) ∙ c .before .before .found .ensures))
+    limits-none (limits id (view (session-in (now (c .before .before .before .args .session))))) (now (c .before .before .before .args .out)) (sym (limits-by (view (session-in (now (c .before .before .before .args .session)))) id Sought.Nowhere (sym (c .enum-told .given .1) ∙ c .before .before .found .ensures)))
 
 returns-2 : tie.Need-returns-2
 returns-2 c =
     let id = c .before .before .before .before .before .before .before .before .args .id in
     let l = c .before .before .before .before .before .l .given in
-    let told = limits-some (limits id (view (session-in (now (c .before .before .before .before .before .before .before .before .args .session))))) (l .0 .0 .limits) _ (now (c .before .before .before .before .before .before .before .before .args .out)) (limits-by (view (session-in (now (c .before .before .before .before .before .before .before .before .args .session)))) id (Sought.At (l .0 .0)) (sym (l .1) ∙ c .before .before .before .before .before .before .before .found .ensures)) (c .before .before .mark-number .ensures) in
+    let told = limits-some (limits id (view (session-in (now (c .before .before .before .before .before .before .before .before .args .session))))) (l .0 .0 .limits) _ (now (c .before .before .before .before .before .before .before .before .args .out)) (sym (limits-by (view (session-in (now (c .before .before .before .before .before .before .before .before .args .session)))) id (Sought.At (l .0 .0)) (sym (l .1) ∙ c .before .before .before .before .before .before .before .found .ensures))) (c .before .before .mark-number .ensures) in
     (told .0, (search needs) ∙ told .1)
 
 pub limits-spec : {M : Type 1} → statement M

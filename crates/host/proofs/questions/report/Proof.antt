@@ -5,10 +5,12 @@ use denote.Ref.{now}
 use Rattle.method.specs.Report.{report}
 use Rattle.method.specs.Ranges.{Room}
 use Rattle.corridor.specs.View.{view}
-use Rattle.host.specs.declared.questions.Sought.{Sought}
-use Rattle.host.specs.Told.{sought, report-rows}
+use Rattle.corridor.specs.declared.questions.Sought.{Sought}
+use Rattle.host.specs.Told.{report-rows}
+use Rattle.corridor.specs.Asked.{sought}
 use Rattle.packed.specs.Packed.{session-in}
-use Rattle.host.proofs.Reports.{sought-has, report-by, report-none, report-some}
+use Rattle.corridor.proofs.Asking.{sought-every, report-by}
+use Rattle.host.proofs.Reports.{report-none, report-some}
 use Rattle.host.proofs.questions.report.Statement.{statement}
 use Rattle.host.proofs.questions.report.Tie as tie
 
@@ -32,7 +34,7 @@ module _ (c : tie.After-known-told) where
 reported-requires : tie.Need-reported-requires
 reported-requires c κs =
     let s = session-in (now (start c .args .session)) in
-    (start c .pre .sane .hold .most, sought-has (Room (s .left)) (start c .args .id) (view s) (c .before .l .given .0 .0) (start c .pre .sane .rooms) (line-is c))
+    (start c .pre .sane .hold .most, sought-every (Room (s .left)) (start c .args .id) (view s) (c .before .l .given .0 .0) (start c .pre .sane .rooms) (line-is c))
 
 report-rows-requires : tie.Need-report-rows-requires
 report-rows-requires c κs = search needs
@@ -41,14 +43,14 @@ returns : tie.Need-returns
 returns c =
     let s = c .before .before .before .args in
     let x = view (session-in (now (s .session))) in
-    report-none (report (s .id) x) (now (s .out)) (report-by x (s .id) Sought.Nowhere (sym (c .enum-told .given .1) ∙ c .before .before .found .ensures))
+    report-none (report (s .id) x) (now (s .out)) (sym (report-by x (s .id) Sought.Nowhere (sym (c .enum-told .given .1) ∙ c .before .before .found .ensures)))
 
 returns-2 : tie.Need-returns-2
 returns-2 c =
     let w = c .before .before in
     let s = start w .args in
     let x = view (session-in (now (s .session))) in
-    report-some (report (s .id) x) _ (now (s .out)) _ (report-by x (s .id) (Sought.At (w .before .l .given .0 .0)) (line-is w)) (c .report-rows .ensures ∙ ap report-rows (c .before .reported .ensures))
+    report-some (report (s .id) x) _ (now (s .out)) _ (sym (report-by x (s .id) (Sought.At (w .before .l .given .0 .0)) (line-is w))) (c .report-rows .ensures ∙ ap report-rows (c .before .reported .ensures))
 
 pub report-spec : {M : Type 1} → statement M
 report-spec =

@@ -7,10 +7,10 @@ use lib.IntN.{ℤ}
 use Rattle.method.specs.Types.{steps}
 use Rattle.method.specs.Event.{placed}
 use Rattle.corridor.specs.View.{view}
-use Rattle.host.specs.declared.questions.Sought.{Sought}
+use Rattle.corridor.specs.declared.questions.Sought.{Sought}
 use Rattle.packed.specs.Packed.{session-in}
 use Rattle.host.specs.Told.{place-number}
-use Rattle.host.proofs.Asking.{place-by}
+use Rattle.corridor.proofs.Asking.{place-by}
 use Rattle.host.proofs.questions.sundewcup_place_unchecked.Statement.{statement}
 use Rattle.host.proofs.questions.sundewcup_place_unchecked.Tie as tie
 
@@ -35,7 +35,7 @@ place-number-requires-2 c κs = search needs
 returns : tie.Need-returns
 returns c =
     let price = steps (c .before .before .before .before .args .price) in
-    (search needs) ∙ c .place-number .ensures ∙ ap place-number (sym (place-by (view (session-in (now (c .before .before .before .before .args .session)))) (c .before .before .before .before .args .id) Sought.Nowhere (sym (c .before .enum-told .given .1) ∙ c .before .before .before .found .ensures) price))
+    (search needs) ∙ c .place-number .ensures ∙ ap place-number ((place-by (view (session-in (now (c .before .before .before .before .args .session)))) (c .before .before .before .before .args .id) Sought.Nowhere (sym (c .before .enum-told .given .1) ∙ c .before .before .before .found .ensures) price))
 
 returns-2 : tie.Need-returns-2
 returns-2 c =
@@ -44,7 +44,7 @@ returns-2 c =
     (search needs) ∙ c .place-number2 .ensures
     ∙ ap place-number
     (c .before .placed .ensures ∙ ap (λ (z : ℤ). placed (l .0 .0 .limits) (steps z)) (toZ-ofZ (c .before .before .before .before .before .before .before .fits .price))
-    ∙ sym (place-by (view (session-in (now (c .before .before .before .before .before .before .before .args .session)))) (c .before .before .before .before .before .before .before .args .id) (Sought.At (l .0 .0)) (sym (l .1) ∙ c .before .before .before .before .before .before .found .ensures) (steps price)))
+    ∙ (place-by (view (session-in (now (c .before .before .before .before .before .before .before .args .session)))) (c .before .before .before .before .before .before .before .args .id) (Sought.At (l .0 .0)) (sym (l .1) ∙ c .before .before .before .before .before .before .found .ensures) (steps price)))
 
 pub sundewcup-place-unchecked-spec : {M : Type 1} → statement M
 sundewcup-place-unchecked-spec =
