@@ -30,7 +30,7 @@ use Rattle.corridor.specs.View.{view, put, Valid}
 use Rattle.corridor.specs.Feeding.{room, answers-told, told, left-by, fed, fed-into}
 use Rattle.corridor.proofs.Views.{view-put, put-put, view-length, valid-put}
 use Rattle.corridor.proofs.Gathered.{ids-next}
-use Rattle.corridor.proofs.Cutting.{first-event}
+use Rattle.events.proofs.Cutting.{first-event}
 use Rattle.corridor.proofs.Feeding.{finally-kept}
 
 -- ---- how many rows there are

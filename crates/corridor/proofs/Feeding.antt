@@ -30,7 +30,7 @@ use Rattle.corridor.specs.Feeding.{room, answers-told, fed, fed-into}
 use Rattle.corridor.proofs.Views.{view-put, put-put, put-view}
 use Rattle.corridor.proofs.Events.{next-length}
 use Rattle.corridor.proofs.Theorems.{valid-event}
-use Rattle.corridor.proofs.Cutting.{first-event, Cut, cut-piece, cut-rest, fewer}
+use Rattle.events.proofs.Cutting.{first-event, Cut, cut-piece, cut-rest, fewer}
 
 -- ---- the rows of a reply
 abbrev pub rows-count : EventAnswer → ℕ → ℕ

@@ -11,7 +11,6 @@ pub mod Events
 pub mod Quiet
 pub mod Asking
 pub mod Theorems
-pub mod Cutting
 pub mod Feeding
 pub mod Turns
 pub mod Chunks

@@ -38,7 +38,7 @@ use Rattle.corridor.proofs.Saying.{Changes, Takes}
 use Rattle.corridor.proofs.Quiet.{Quiet, quiet-start, quiet-serves, quiet-tick, quiet-quoted}
 use Rattle.corridor.proofs.Events.{reply, refused-is, accepted, moved-on, handed, lines-after, changes-after, event-taken}
 use Rattle.corridor.proofs.Theorems.{valid-event}
-use Rattle.corridor.proofs.Cutting.{Cut, fewer}
+use Rattle.events.proofs.Cutting.{Cut, fewer}
 use Rattle.corridor.proofs.Feeding.{Ahead, ahead-start, ahead-turn, ahead-long}
 
 -- ---- the holds that are due by t are served: s′ is the session then, and their rows stand in now′ up to at′

@@ -36,7 +36,7 @@ impl Session {
         let n = self.count;
         let end = self.end;
         let clock = self.clock;
-        let e = wire::event::read(bytes);
+        let e = events::read(bytes);
         let ids = self.ids();
         match verdict::screen(&ids[..n], 0, end, clock, e) {
             Verdict::Refused(why) => {

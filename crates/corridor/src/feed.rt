@@ -50,8 +50,8 @@ impl Session {
         let mut at: usize = 0;
         let mut from: usize = 0;
         while from < size {
-            let to = wire::event::cut(from, size);
-            let e = wire::event::read(&events[from..to]);
+            let to = events::cut(from, size);
+            let e = events::read(&events[from..to]);
             from = to;
             let end = s.end;
             let clock = s.clock;

@@ -124,7 +124,7 @@ pub extern "C" fn sundewcup_event_unchecked(
     ensures { λ _. ⌜ now (out .exit) ≡ written (now (out .entry)) 0 (shift-rows (reply-in (now (session .entry)) (now (bytes .entry)))) ⌝ }
     ensures { λ r. ⌜ Leaves r (now (session .entry)) (now (session .exit)) (reply-in (now (session .entry)) (now (bytes .entry)) .session) ⌝ }
 {
-    let e = wire::event::read(bytes);
+    let e = events::read(bytes);
     let s = looked(session, e);
     let said = s.verdict;
     match said {

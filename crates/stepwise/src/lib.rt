@@ -55,7 +55,7 @@ pub fn feed(first: Session, events: &[u8], out: &mut [i64]) -> Fed
     let mut at: usize = 0;
     let mut from: usize = 0;
     while from < size {
-        let to = wire::event::cut(from, size);
+        let to = events::cut(from, size);
         let r = session.event(&events[from..to]);
         let answer = r.answer;
         let shifts = r.shifts;

@@ -24,7 +24,7 @@ use Rattle.corridor.proofs.Quiet.{Quiet, quiet-first}
 use Rattle.corridor.proofs.Named.{named-below}
 use Rattle.corridor.proofs.Saying.{Changes, Says, Takes, session-says}
 use Rattle.corridor.proofs.Events.{quote-asks, quoted-in, quote-in}
-use Rattle.corridor.proofs.Cutting.{Cut, cut-is}
+use Rattle.events.proofs.Cutting.{Cut, cut-is}
 use Rattle.corridor.proofs.Feeding.{ahead-long, all-fed, all-into, nothing-fed, nothing-into}
 use Rattle.corridor.proofs.Turns.{Caught, caught-none, caught-served, served-few, Turn, turn-start, row-fits, shifts-fit, turn-refused, turn-holds, turn-taken}
 use Rattle.corridor.proofs.Session.feed.Statement.{statement}

@@ -1,10 +1,10 @@
--- `wire::event::read_tick` meets its contract. Assumes nothing.
+-- `events::read_tick` meets its contract. Assumes nothing.
 use borrow.Author.Needs.{needs}
 use borrow.Author.Tests.{eq-eqb, ne-eqb}
 use Rattle.numbers.proofs.Tests.{failed, held}
 use Rattle.method.specs.Event.{read-tick}
-use Rattle.wire.proofs.event.read_tick.Statement.{statement}
-use Rattle.wire.proofs.event.read_tick.Tie as tie
+use Rattle.events.proofs.read_tick.Statement.{statement}
+use Rattle.events.proofs.read_tick.Tie as tie
 
 returns : tie.Need-returns
 unfolding read-tick

@@ -1,9 +1,9 @@
--- `wire::event::read_quote` meets its contract. Assumes nothing.
+-- `events::read_quote` meets its contract. Assumes nothing.
 use borrow.Author.Needs.{needs}
 use Rattle.numbers.proofs.Tests.{failed, held}
 use Rattle.method.specs.Event.{read-quote}
-use Rattle.wire.proofs.event.read_quote.Statement.{statement}
-use Rattle.wire.proofs.event.read_quote.Tie as tie
+use Rattle.events.proofs.read_quote.Statement.{statement}
+use Rattle.events.proofs.read_quote.Tie as tie
 
 bit-0-requires : tie.Need-bit-0-requires
 bit-0-requires c κs = search needs

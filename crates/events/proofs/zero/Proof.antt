@@ -1,9 +1,9 @@
--- `wire::event::zero` meets its contract. Assumes nothing.
+-- `events::zero` meets its contract. Assumes nothing.
 use borrow.Author.Needs.{needs}
 use lib.IntN.{pos}
 use Rattle.numbers.proofs.Machine.{literal, same-bits}
-use Rattle.wire.proofs.event.zero.Statement.{statement}
-use Rattle.wire.proofs.event.zero.Tie as tie
+use Rattle.events.proofs.zero.Statement.{statement}
+use Rattle.events.proofs.zero.Tie as tie
 
 returns : tie.Need-returns
 returns c = same-bits {a = c .before .before .args .z .0} (search needs) (literal (pos 0) tt)

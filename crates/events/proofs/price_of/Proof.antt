@@ -1,7 +1,7 @@
--- `wire::event::price_of` meets its contract. Assumes nothing.
+-- `events::price_of` meets its contract. Assumes nothing.
 use borrow.Author.Needs.{needs}
-use Rattle.wire.proofs.event.price_of.Statement.{statement}
-use Rattle.wire.proofs.event.price_of.Tie as tie
+use Rattle.events.proofs.price_of.Statement.{statement}
+use Rattle.events.proofs.price_of.Tie as tie
 
 returns : tie.Need-returns
 returns c = rw (c .if1 .taken)

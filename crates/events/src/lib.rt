@@ -7,7 +7,7 @@ ghost use lib.ListN.{length};
 ghost use Rattle.numbers.specs.Tests.{same};
 ghost use Rattle.method.specs.Wire.{word, signed};
 ghost use Rattle.method.specs.Event.{price-good, price-of, read-tick, read-quote, read};
-ghost use Rattle.wire.specs.Cutting.{cut-at};
+ghost use Rattle.events.specs.Cutting.{cut-at};
 use method::Event;
 use method::Price;
 use method::Quote;
@@ -30,7 +30,7 @@ fn price(bytes: &[u8], at: usize) -> Steps
     requires { ⌜ at + 4 ≤ length (now bytes) ⌝ }
     ensures { λ r. ⌜ r .0 ≡ signed (word (now (bytes .entry)) at) ⌝ }
 {
-    Steps(crate::signed_word(bytes, at))
+    Steps(wire::signed_word(bytes, at))
 }
 
 fn zero(z: Steps) -> bool
@@ -77,9 +77,9 @@ fn read_tick(time: Seconds, id: u32, bid: Steps, ask: Steps) -> Event
 fn read_quote(time: Seconds, id: u32, flags: u32, bid: Steps, ask: Steps) -> Event
     ensures { λ r. ⌜ r ≡ read-quote time id flags (bid .0) (ask .0) ⌝ }
 {
-    let hasbid = crate::bit_0(flags);
-    let hasask = crate::bit_1(flags);
-    if !crate::reserved_zero(flags) {
+    let hasbid = wire::bit_0(flags);
+    let hasask = wire::bit_1(flags);
+    if !wire::reserved_zero(flags) {
         return Event::Damaged;
     }
     if !price_good(hasbid, bid) {
@@ -103,9 +103,9 @@ pub fn read(bytes: &[u8]) -> Event
     if bytes.len() != 20 {
         return Event::Damaged;
     }
-    let time = Seconds(crate::word(bytes, 0));
-    let id = crate::word(bytes, 4);
-    let flags = crate::word(bytes, 8);
+    let time = Seconds(wire::word(bytes, 0));
+    let id = wire::word(bytes, 4);
+    let flags = wire::word(bytes, 8);
     let bid = price(bytes, 12);
     let ask = price(bytes, 16);
     if flags == 4 {

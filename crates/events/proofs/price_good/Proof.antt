@@ -1,7 +1,7 @@
--- `wire::event::price_good` meets its contract. Assumes nothing.
+-- `events::price_good` meets its contract. Assumes nothing.
 use borrow.Author.Needs.{needs}
-use Rattle.wire.proofs.event.price_good.Statement.{statement}
-use Rattle.wire.proofs.event.price_good.Tie as tie
+use Rattle.events.proofs.price_good.Statement.{statement}
+use Rattle.events.proofs.price_good.Tie as tie
 
 between-requires : tie.Need-between-requires
 between-requires c κs = search needs

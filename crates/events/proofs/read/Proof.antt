@@ -1,9 +1,9 @@
--- `wire::event::read` meets its contract: any bytes of any length. Assumes nothing.
+-- `events::read` meets its contract: any bytes of any length. Assumes nothing.
 use borrow.Author.Needs.{needs}
 use borrow.Author.Tests.{eq-eqb, ne-eqb}
 use Rattle.method.specs.Event.{read}
-use Rattle.wire.proofs.event.read.Statement.{statement}
-use Rattle.wire.proofs.event.read.Tie as tie
+use Rattle.events.proofs.read.Statement.{statement}
+use Rattle.events.proofs.read.Tie as tie
 
 returns : tie.Need-returns
 unfolding read

@@ -1,8 +1,8 @@
--- `wire::event::cut` meets its contract. Assumes nothing.
+-- `events::cut` meets its contract. Assumes nothing.
 use borrow.Author.Needs.{needs}
 use borrow.Author.Tests.{lt-ltb, le-ltb}
-use Rattle.wire.proofs.event.cut.Statement.{statement}
-use Rattle.wire.proofs.event.cut.Tie as tie
+use Rattle.events.proofs.cut.Statement.{statement}
+use Rattle.events.proofs.cut.Tie as tie
 
 sub-if1 : tie.Need-sub-if1
 sub-if1 c = search needs

@@ -1,10 +1,10 @@
--- `wire::event::price` meets its contract. Assumes nothing.
+-- `events::price` meets its contract. Assumes nothing.
 use borrow.Author.Needs.{needs}
 use mathlib.Core.Path.{_∙_}
 use mir.Syntax.{w64}
 use mir.Facts.{toZ-ofZ}
-use Rattle.wire.proofs.event.price.Statement.{statement}
-use Rattle.wire.proofs.event.price.Tie as tie
+use Rattle.events.proofs.price.Statement.{statement}
+use Rattle.events.proofs.price.Tie as tie
 
 signed-word-requires : tie.Need-signed-word-requires
 signed-word-requires c κs = search needs
