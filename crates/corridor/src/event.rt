@@ -29,7 +29,7 @@ impl Session {
 
     // Holds that are due by an event's time are served before it is applied, so a quote meets the lines as the shifts leave them. A refused
     // event hands back the session as it was given.
-    pub fn event(self, bytes: &[u8]) -> Reply
+    pub fn event(mut self, bytes: &[u8]) -> Reply
         requires { ⌜ Valid self ⌝ }
         ensures { λ r. ⌜ r ≡ reply-of self (read (now (bytes .entry))) (answer (view self) (read (now (bytes .entry)))) ⌝ }
     {
@@ -51,25 +51,24 @@ impl Session {
                 let t = v.time;
                 let r = self.served(t);
                 let shifts = r.shifts;
-                let mut s = r.session;
+                self = r.session;
                 let change = v.change;
                 match change {
                     Change::Nothing => {}
                     Change::Quote(p) => {
-                        let near = s.near;
+                        let near = self.near;
                         let q = p.quote;
                         let place = p.place;
-                        let l = s.lines[place];
-                        let m = holds::shift::quoted_line(near, s.left, q, l);
-                        s.lines[place] = m;
+                        let m = holds::shift::quoted_line(near, self.left, q, self.lines[place]);
+                        self.lines[place] = m;
                     }
                 }
-                s.clock = t;
+                self.clock = t;
                 return Reply {
                     answer: EventAnswer::Accepted,
                     shifts: shifts,
                     made: r.made,
-                    session: s,
+                    session: self,
                 };
             }
         }

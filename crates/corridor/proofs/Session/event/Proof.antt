@@ -61,25 +61,25 @@ enum-known-why : tie.Need-enum-known-why
 enum-known-why c = search needs
 
 -- ---- what the verdict says
-said : (c : tie.After-screen) → Says (view (from-screen c .args .self)) (read (now (from-screen c .args .bytes))) (c .screen .result)
-said c = session-says (from-screen c .args .self) (c .before .before .ids .ensures .1) (c .before .before .before .read .ensures) (c .screen .ensures)
+said : (c : tie.After-screen) → Says (view (from-screen c .args .t1)) (read (now (from-screen c .args .bytes))) (c .screen .result)
+said c = session-says (from-screen c .args .t1) (c .before .before .ids .ensures .1) (c .before .before .before .read .ensures) (c .screen .ensures)
 
 -- ---- a refusal
 returns : tie.Need-returns
 returns c =
     let seen = c .before .before .before in
     let s = from-screen seen in
-    refused-is (s .args .self) (read (now (s .args .bytes))) _
-    (subst (Says (view (s .args .self)) (read (now (s .args .bytes)))) (c .before .why .given .1) (said seen))
+    refused-is (s .args .t1) (read (now (s .args .bytes))) _
+    (subst (Says (view (s .args .t1)) (read (now (s .args .bytes)))) (c .before .why .given .1) (said seen))
 
 -- ---- an event that is taken
 enum-known-v : tie.Need-enum-known-v
 enum-known-v c = search needs
 
-takes : (c : tie.After-t) → Takes (view (from-taken c .args .self)) (read (now (from-taken c .args .bytes))) (taken c)
+takes : (c : tie.After-t) → Takes (view (from-taken c .args .t1)) (read (now (from-taken c .args .bytes))) (taken c)
 takes c =
     let s = from-taken c in
-    subst (Says (view (s .args .self)) (read (now (s .args .bytes)))) (c .before .before .v .given .1) (said (c .before .before .before .before))
+    subst (Says (view (s .args .t1)) (read (now (s .args .bytes)))) (c .before .before .v .given .1) (said (c .before .before .before .before))
 
 served-requires : tie.Need-served-requires
 served-requires c κs = from-taken c .pre
@@ -92,22 +92,22 @@ enum-known-change c = search needs
 
 -- ---- the line of a quote
 changes : (c : tie.After-known-told3)
-    → Changes (view (from-quote c .args .self)) (read (now (from-quote c .args .bytes))) (Change.Quote (placed c))
+    → Changes (view (from-quote c .args .t1)) (read (now (from-quote c .args .bytes))) (Change.Quote (placed c))
 changes c =
     let s = from-quote c in
-    subst (Changes (view (s .args .self)) (read (now (s .args .bytes)))) (c .before .change .given .1) (takes (served-at c .before) .changes)
+    subst (Changes (view (s .args .t1)) (read (now (s .args .bytes)))) (c .before .change .given .1) (takes (served-at c .before) .changes)
 
 below : (c : tie.After-known-told3) → placed c .place < 32
 below c =
     let s = from-quote c in
-    let named = named-below (placed c .quote .id) (view (s .args .self) .lines) (placed c .place) (changes c .1) in
+    let named = named-below (placed c .quote .id) (view (s .args .t1) .lines) (placed c .place) (changes c .1) in
     omega (arith, named, view-length (s .pre), s .pre .few)
 
-mul-l : tie.Need-mul-l
-mul-l c = omega (arith, below (c .before .before))
+mul-quoted-line : tie.Need-mul-quoted-line
+mul-quoted-line c = omega (arith, below (c .before .before))
 
-element-copy-out-l : tie.Need-element-copy-out-l
-element-copy-out-l c = below (c .before .before)
+element-copy-out-quoted-line : tie.Need-element-copy-out-quoted-line
+element-copy-out-quoted-line c = below (c .before .before)
 
 quoted-line-requires : tie.Need-quoted-line-requires
 quoted-line-requires c κs =
@@ -115,7 +115,7 @@ quoted-line-requires c κs =
     let s = from-quote at in
     let q = placed at in
     let o = changes at in
-    quote-asks (s .args .self) _ (q .quote) (q .place) _ (s .pre) (o .1) (quote-in (now (s .args .bytes)) (q .quote) (o .0)) (served-at at .served .ensures)
+    quote-asks (s .args .t1) _ (q .quote) (q .place) _ (s .pre) (o .1) (quote-in (now (s .args .bytes)) (q .quote) (o .0)) (served-at at .served .ensures)
 
 mul-m : tie.Need-mul-m
 mul-m c = omega (arith, below (c .before .before .before .before))
@@ -129,10 +129,10 @@ returns-2 c =
     let at = c .before .before .before in
     let s = from-taken (at .before) in
     let r = at .served .result in
-    let told = event-taken (s .args .self) (read (now (s .args .bytes))) (taken (at .before)) r (takes (at .before)) (at .served .ensures) in
+    let told = event-taken (s .args .t1) (read (now (s .args .bytes))) (taken (at .before)) r (takes (at .before)) (at .served .ensures) in
     let put = quoted-in (r .session) in
-    ⊎-elim (λ w. told Change.Nothing (w .1 .given .1) (c .match2 .s) (w .2))
-    (λ w. told (Change.Quote (w .1 .given .0 .0)) (w .1 .given .1) (c .match2 .s) (w .7 ∙ ap (put (w .1 .given .0 .0 .place)) (w .6 .ensures)))
+    ⊎-elim (λ w. told Change.Nothing (w .1 .given .1) (c .match2 .self) (w .2))
+    (λ w. told (Change.Quote (w .1 .given .0 .0)) (w .1 .given .1) (c .match2 .self) (w .7 ∙ ap (put (w .1 .given .0 .0 .place)) (w .6 .ensures)))
     (c .match2 .came)
 
 pub event-spec : {M : Type 1} → statement M
@@ -150,8 +150,8 @@ event-spec =
     served-requires
     enum-told
     enum-known-change
-    mul-l
-    element-copy-out-l
+    mul-quoted-line
+    element-copy-out-quoted-line
     quoted-line-requires
     mul-m
     element-set-from-m
