@@ -29,7 +29,7 @@ impl Session {
     // Every event of the buffer in turn; a last one that is cut short is refused like any string that is no event. The room is worked out
     // first: where it is not there, nothing is done. The session stays in its place: before the second `quiet` no hold is due, and from it on
     // that second is found anew before the session goes by value to be served; then it is 0, to be found at the next event.
-    pub fn feed(self, events: &[u8], out: &mut [i64]) -> Fed
+    pub fn feed(mut self, events: &[u8], out: &mut [i64]) -> Fed
         requires { ⌜ Valid self ⌝ }
         ensures { λ r. ⌜ r ≡ fed self (length (now (out .entry))) (now (events .entry)) ⌝ }
         ensures { λ _. ⌜ now (out .exit) ≡ fed-into self (now (out .entry)) (now (events .entry)) ⌝ }
@@ -45,7 +45,6 @@ impl Session {
         let n = self.count;
         let ids = self.ids();
         let guesses = guessed(&ids, n);
-        let mut s = self;
         let mut quiet = Seconds(0);
         let mut at: usize = 0;
         let mut from: usize = 0;
@@ -53,8 +52,8 @@ impl Session {
             let to = events::cut(from, size);
             let e = events::read(&events[from..to]);
             from = to;
-            let end = s.end;
-            let clock = s.clock;
+            let end = self.end;
+            let clock = self.clock;
             let slot = verdict::slot(e);
             let guess = guesses[slot];
             match verdict::screen(&ids[..n], guess, end, clock, e) {
@@ -65,37 +64,36 @@ impl Session {
                 Verdict::Taken(v) => {
                     let t = v.time;
                     if t.0 >= quiet.0 {
-                        quiet = s.quiet();
+                        quiet = self.quiet();
                     }
                     if quiet.0 <= t.0 {
-                        let r = s.served(t);
+                        let r = self.served(t);
                         let shifts = r.shifts;
                         at = rows::write_shifts(out, at, shifts, r.made);
-                        s = r.session;
+                        self = r.session;
                         quiet = Seconds(0);
                     }
                     let change = v.change;
                     match change {
                         Change::Nothing => {}
                         Change::Quote(p) => {
-                            let near = s.near;
+                            let near = self.near;
                             let q = p.quote;
                             let place = p.place;
-                            let l = s.lines[place];
-                            let m = holds::shift::quoted_line(near, s.left, q, l);
-                            s.lines[place] = m;
-                            let wait = s.hold;
+                            let m = holds::shift::quoted_line(near, self.left, q, self.lines[place]);
+                            self.lines[place] = m;
+                            let wait = self.hold;
                             let h = m.holds;
                             quiet = due::until(quiet, wait, h);
                         }
                     }
-                    s.clock = t;
+                    self.clock = t;
                 }
             }
         }
         Fed {
             answer: RowsAnswer::Written(at),
-            session: s,
+            session: self,
         }
     }
 }

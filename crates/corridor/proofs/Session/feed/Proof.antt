@@ -31,10 +31,10 @@ use Rattle.corridor.proofs.Session.feed.Statement.{statement}
 use Rattle.corridor.proofs.Session.feed.Tie as tie
 
 abbrev Inv-loop : tie.InvT-loop
-Inv-loop events out₀ size needed n ids guesses s₀ quiet₀ at₀ from₀ out s quiet at from = Turn s₀ events out₀ n ids s quiet at from out
+Inv-loop events out₀ self₀ size needed n ids guesses quiet₀ at₀ from₀ out self quiet at from = Turn self₀ events out₀ n ids self quiet at from out
 
 abbrev μ-loop : tie.MeasureT-loop
-μ-loop events out₀ size needed n ids guesses s₀ quiet₀ at₀ from₀ out s quiet at from = size - from
+μ-loop events out₀ self₀ size needed n ids guesses quiet₀ at₀ from₀ out self quiet at from = size - from
 
 -- ---- the places that ask for facts, and the way back from each to those that know them
 abbrev Start : Type 0
@@ -90,7 +90,7 @@ cut-quoted c = cut-served (c .before .before .before)
 
 -- ---- the event at hand: the session that meets it, its bytes, what is taken of it, and its quote
 abbrev session : CutOut → Session
-session c = turning c .loop .s
+session c = turning c .loop .self
 
 abbrev bytes : CutOut → List ℕ
 bytes c = take (c .cut .result - turning c .loop .from) (drop (turning c .loop .from) (now (from-turning (turning c) .args .events)))
@@ -109,8 +109,8 @@ returns : tie.Need-returns Inv-loop μ-loop
 returns c =
     let s = c .before .before .before in
     let e = c .before .room .ensures in (
-      nothing-fed (s .args .self) (now (s .args .out)) (now (s .args .events)) e (c .if1 .taken),
-      nothing-into (s .args .self) (now (s .args .out)) (now (s .args .events)) e (c .if1 .taken),
+      nothing-fed (s .args .t1) (now (s .args .out)) (now (s .args .events)) e (c .if1 .taken),
+      nothing-into (s .args .t1) (now (s .args .out)) (now (s .args .events)) e (c .if1 .taken),
     )
 
 -- ---- the ids are gathered, and the guesses made
@@ -125,7 +125,7 @@ loop-holds c =
     let s = c .before .before .before .before .before .before in
     let asked = c .before .before .before in
     let got = c .before .before .ids in
-    turn-start (s .args .self) (now (s .args .events)) (now (s .args .out)) (s .args .self .count) (got .result) (s .pre)
+    turn-start (s .args .t1) (now (s .args .events)) (now (s .args .out)) (s .args .t1 .count) (got .result) (s .pre)
     (omega (arith, asked .before .room .ensures, asked .if1 .left)) (got .ensures .1)
 
 -- ---- the event at hand is cut out and read
@@ -186,7 +186,7 @@ enum-known-why c = search needs
 row-has-room : (k : CutOut) → turning k .loop .at + 6 ≤ length (turning k .loop .out)
 row-has-room k =
     let s = from-turning (turning k) in
-    row-fits (s .args .self) (now (s .args .events)) (now (s .args .out)) _ _ (turning k .loop .inv) (k .before .loop-test .taken) (cut k)
+    row-fits (s .args .t1) (now (s .args .events)) (now (s .args .out)) _ _ (turning k .loop .inv) (k .before .loop-test .taken) (cut k)
 
 write-requires : tie.Need-write-requires Inv-loop μ-loop
 write-requires c κs = omega (arith, row-has-room (cut-screened (c .before .before .before .before)))
@@ -195,7 +195,7 @@ add-at : tie.Need-add-at Inv-loop μ-loop
 add-at c =
     let k = cut-screened (c .before .before .before .before .before .before) in
     let s = from-turning (turning k) in
-    omega (arith, row-has-room k, ahead-long (s .args .self) (now (s .args .events)) (now (s .args .out)) (turning k .loop .inv .ahead), s .good)
+    omega (arith, row-has-room k, ahead-long (s .args .t1) (now (s .args .events)) (now (s .args .out)) (turning k .loop .inv .ahead), s .good)
 
 loop-less : tie.Need-loop-less Inv-loop μ-loop
 loop-less c = let k = cut (cut-screened (c .before .before .before .before .before .before)) in omega (arith, k .on, k .inside)
@@ -205,7 +205,7 @@ loop-again c =
     let seen = c .before .before .before .before .before .before in
     let k = cut-screened seen in
     let s = from-turning (turning k) in
-    turn-refused (s .args .self) (now (s .args .events)) (now (s .args .out)) _ _ (turning k .loop .inv) (k .before .loop-test .taken) (cut k) _
+    turn-refused (s .args .t1) (now (s .args .events)) (now (s .args .out)) _ _ (turning k .loop .inv) (k .before .loop-test .taken) (cut k) _
     (subst (Says (view (session k)) (read (bytes k))) (c .before .before .before .before .why .given .1) (said seen)) (c .before .write .ensures)
 
 -- ---- the holds that are due are served, or none is
@@ -229,17 +229,17 @@ write-shifts-requires c κs =
     let k = cut-looked (c .before .before .before .before .before .before) in
     let s = from-turning (turning k) in
     let at = turning k .loop in
-    let few = served-few (at .s) _ (at .inv .ahead .valid) (c .before .before .served .result) (c .before .before .served .ensures) in
-    (few .0, shifts-fit (s .args .self) (now (s .args .events)) (now (s .args .out)) _ _ (at .inv) (k .before .loop-test .taken) (cut k) _ (few .1))
+    let few = served-few (at .self) _ (at .inv .ahead .valid) (c .before .before .served .result) (c .before .before .served .ensures) in
+    (few .0, shifts-fit (s .args .t1) (now (s .args .events)) (now (s .args .out)) _ _ (at .inv) (k .before .loop-test .taken) (cut k) _ (few .1))
 
 caught : (c : Served)
     → let at = turning (cut-served c) .loop in
-    Caught (at .s) (taken (timed c) .time) (at .at) (at .out) (c .if3 .s) (c .if3 .quiet) (c .if3 .at) (c .if3 .out)
+    Caught (at .self) (taken (timed c) .time) (at .at) (at .out) (c .if3 .self) (c .if3 .quiet) (c .if3 .at) (c .if3 .out)
 caught c =
     let at = turning (cut-served c) .loop in
     ⊎-elim
-    (λ w. caught-served (at .s) _ (at .at) (at .out) (w .1 .result) (w .1 .ensures) (w .7 ∙ w .4 .ensures .1) (w .8) (w .9) (w .10 ∙ w .4 .ensures .0))
-    (λ w. caught-none (at .s) _ (at .at) (at .out) _ (at .inv .ahead .valid) (still-quiet (looked c)) (w .0 .left) (w .1) (w .2) (w .3) (w .4)) (c .if3 .came)
+    (λ w. caught-served (at .self) _ (at .at) (at .out) (w .1 .result) (w .1 .ensures) (w .7 ∙ w .4 .ensures .1) (w .8) (w .9) (w .10 ∙ w .4 .ensures .0))
+    (λ w. caught-none (at .self) _ (at .at) (at .out) _ (at .inv .ahead .valid) (still-quiet (looked c)) (w .0 .left) (w .1) (w .2) (w .3) (w .4)) (c .if3 .came)
 
 -- ---- the line of a quote
 enum-told : tie.Need-enum-told Inv-loop μ-loop
@@ -256,14 +256,14 @@ changes c =
 below : (c : Quoted) → placed c .place < 32
 below c =
     let at = turning (cut-quoted c) .loop in
-    let named = named-below (placed c .quote .id) (view (at .s) .lines) (placed c .place) (changes c .1) in
+    let named = named-below (placed c .quote .id) (view (at .self) .lines) (placed c .place) (changes c .1) in
     omega (arith, named, view-length (at .inv .ahead .valid), at .inv .ahead .valid .few)
 
-mul-l : tie.Need-mul-l Inv-loop μ-loop
-mul-l c = omega (arith, below (c .before .before))
+mul-quoted-line : tie.Need-mul-quoted-line Inv-loop μ-loop
+mul-quoted-line c = omega (arith, below (c .before .before))
 
-element-copy-out-l : tie.Need-element-copy-out-l Inv-loop μ-loop
-element-copy-out-l c = below (c .before .before)
+element-copy-out-quoted-line : tie.Need-element-copy-out-quoted-line Inv-loop μ-loop
+element-copy-out-quoted-line c = below (c .before .before)
 
 quoted-line-requires : tie.Need-quoted-line-requires Inv-loop μ-loop
 quoted-line-requires c κs =
@@ -271,7 +271,7 @@ quoted-line-requires c κs =
     let r = q .before .before .before in
     let at = turning (cut-quoted q) .loop in
     let o = changes q in
-    quote-asks (at .s) (taken (timed r) .time) (placed q .quote) (placed q .place) _ (at .inv .ahead .valid) (o .1)
+    quote-asks (at .self) (taken (timed r) .time) (placed q .quote) (placed q .place) _ (at .inv .ahead .valid) (o .1)
     (quote-in _ (placed q .quote) (o .0)) (caught r .served)
 
 mul-m : tie.Need-mul-m Inv-loop μ-loop
@@ -286,7 +286,7 @@ until-requires c κs =
     let r = q .before .before .before in
     let k = cut-served r in
     let s = from-turning (turning k) in
-    turn-holds (s .args .self) (now (s .args .events)) (now (s .args .out)) _ _ (turning k .loop .inv) (k .before .loop-test .taken) (cut k) _
+    turn-holds (s .args .t1) (now (s .args .events)) (now (s .args .out)) _ _ (turning k .loop .inv) (k .before .loop-test .taken) (cut k) _
     (takes (timed r)) (caught r) (placed q) (q .before .change .given .1) _ (c .before .before .quoted-line .ensures)
 
 -- ---- an event that is taken: the next turn
@@ -299,13 +299,13 @@ loop-again-2 c =
     let k = cut-served r in
     let s = from-turning (turning k) in
     let then =
-    turn-taken (s .args .self) (now (s .args .events)) (now (s .args .out)) _ _ (turning k .loop .inv) (k .before .loop-test .taken) (cut k) _
+    turn-taken (s .args .t1) (now (s .args .events)) (now (s .args .out)) _ _ (turning k .loop .inv) (k .before .loop-test .taken) (cut k) _
     (takes (timed r)) (caught r) in
-    let put = quoted-in (r .if3 .s) in
-    let later = until (r .if3 .quiet) (r .if3 .s .hold) in
-    ⊎-elim (λ w. then Change.Nothing (w .1 .given .1) (c .match2 .s) (w .2) (c .match2 .quiet) (w .3))
+    let put = quoted-in (r .if3 .self) in
+    let later = until (r .if3 .quiet) (r .if3 .self .hold) in
+    ⊎-elim (λ w. then Change.Nothing (w .1 .given .1) (c .match2 .self) (w .2) (c .match2 .quiet) (w .3))
     (λ w.
-    then (Change.Quote (w .1 .given .0 .0)) (w .1 .given .1) (c .match2 .s) (w .10 ∙ ap (put (w .1 .given .0 .0 .place)) (w .6 .ensures))
+    then (Change.Quote (w .1 .given .0 .0)) (w .1 .given .1) (c .match2 .self) (w .10 ∙ ap (put (w .1 .given .0 .0 .place)) (w .6 .ensures))
     (c .match2 .quiet) (w .11 ∙ w .9 .ensures ∙ ap (λ (l : Line). later (l .holds)) (w .6 .ensures)))
     (c .match2 .came)
 
@@ -313,7 +313,7 @@ loop-again-2 c =
 same-length : tie.Need-same-length Inv-loop μ-loop
 same-length c =
     let s = from-turning (c .before) in
-    ahead-long (s .args .self) (now (s .args .events)) (now (s .args .out)) (c .before .loop .inv .ahead)
+    ahead-long (s .args .t1) (now (s .args .events)) (now (s .args .out)) (c .before .loop .inv .ahead)
 
 returns-2 : tie.Need-returns-2 Inv-loop μ-loop
 returns-2 c =
@@ -323,8 +323,8 @@ returns-2 c =
     let asked = c .before .before .before .before .before in
     let last : at .from ≡ length (now (s .args .events)) = omega (arith, h .inside) in
     let enough : room (length (now (s .args .events))) ≤ length (now (s .args .out)) = omega (arith, asked .before .room .ensures, asked .if1 .left) in (
-      all-fed (s .args .self) (now (s .args .events)) (now (s .args .out)) h last enough,
-      all-into (s .args .self) (now (s .args .events)) (now (s .args .out)) h last enough,
+      all-fed (s .args .t1) (now (s .args .events)) (now (s .args .out)) h last enough,
+      all-into (s .args .t1) (now (s .args .events)) (now (s .args .out)) h last enough,
     )
 
 pub feed-spec : {M : Type 1} → statement M
@@ -359,8 +359,8 @@ feed-spec =
     write-shifts-requires
     enum-told
     enum-known-change
-    mul-l
-    element-copy-out-l
+    mul-quoted-line
+    element-copy-out-quoted-line
     quoted-line-requires
     mul-m
     element-set-from-m
