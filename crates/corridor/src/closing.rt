@@ -20,8 +20,7 @@ impl Session {
             return RowsAnswer::NoRoom(needed);
         }
         for i in 0..n {
-            let l = self.lines[i];
-            let row = report::closing_row(l);
+            let row = report::closing_row(self.lines[i]);
             rows::write(out, 6 * i, row);
         }
         RowsAnswer::Written(needed)

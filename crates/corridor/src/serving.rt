@@ -24,8 +24,7 @@ impl Session {
         let near = self.near;
         let left = self.left - 1;
         for place in 0..n {
-            let l = self.lines[place];
-            let m = holds::shift::shift_line(near, left, side, now, l);
+            let m = holds::shift::shift_line(near, left, side, now, self.lines[place]);
             self.lines[place] = m;
         }
         self.left = left;
@@ -58,13 +57,13 @@ impl Session {
                 i = i + 1;
             };
             let place = call.place;
-            let l = self.lines[place];
+            let id = self.lines[place].terms.id;
             let side = call.side;
             let second = call.second;
             shifts[made] = ShiftLine {
                 second: second,
                 side: side,
-                id: l.terms.id,
+                id: id,
             };
             made = made + 1;
             self = self.shifted(side, second);

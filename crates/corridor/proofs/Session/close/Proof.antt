@@ -36,11 +36,11 @@ returns c = (rw (lt-ltb _ _ (c .if1 .taken)), rw (lt-ltb _ _ (c .if1 .taken)))
 loop-holds : tie.Need-loop-holds Inv-loop μ-loop
 loop-holds c = (omega arith, nothing-written (now (c .before .args .out)) 0, refl)
 
-mul-l : tie.Need-mul-l Inv-loop μ-loop
-mul-l c = omega (arith, c .before .before .before .pre .few)
+mul-closing-row : tie.Need-mul-closing-row Inv-loop μ-loop
+mul-closing-row c = omega (arith, c .before .before .before .pre .few)
 
-element-copy-out-l : tie.Need-element-copy-out-l Inv-loop μ-loop
-element-copy-out-l c = omega (arith, c .before .before .before .pre .few, c .before .before .before .pre .full)
+element-copy-out-closing-row : tie.Need-element-copy-out-closing-row Inv-loop μ-loop
+element-copy-out-closing-row c = omega (arith, c .before .before .before .pre .few, c .before .before .before .pre .full)
 
 closing-row-requires : tie.Need-closing-row-requires Inv-loop μ-loop
 closing-row-requires c κs = room-drawn (room-at (c .before .before .loop .i) (ranged (c .before .before .before .before .pre)) (c .before .loop-test .taken))
@@ -93,8 +93,8 @@ close-spec =
     mul-needed
     returns
     loop-holds
-    mul-l
-    element-copy-out-l
+    mul-closing-row
+    element-copy-out-closing-row
     closing-row-requires
     mul-write
     write-requires

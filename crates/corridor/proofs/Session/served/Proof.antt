@@ -5,7 +5,7 @@ use Prim.Native.Nat.{_≤_, _-_}
 use native.Mathlib.Omega.{arith}
 use Rattle.method.specs.Shift.{shifted}
 use Rattle.method.specs.Search.{next-due}
-use Rattle.corridor.specs.Names.{At}
+use Rattle.corridor.specs.Names.{Seconds, Due, At}
 use Rattle.corridor.specs.View.{view}
 use Rattle.corridor.proofs.Views.{ranged-length}
 use Rattle.corridor.proofs.Due.{Passed, row-passes, passed-turn, Next, next-is}
@@ -25,11 +25,29 @@ Inv-serving t self₀ n wait end shifts₀ made₀ self shifts made = Going t se
 abbrev μ-serving : tie.MeasureT-serving
 μ-serving t self₀ n wait end shifts₀ made₀ self shifts made = self .left
 
--- where the inner loop hands a hold over, that is the next one
-found : (c : tie.After-known-told Inv-loop μ-loop Inv-serving μ-serving) → next-due (c .before .before .before .before .before .before .before .before .before .args .t) (view (c .before .before .before .before .before .before .serving .self)) ≡ At (c .before .c .given .0 .0)
-found c = going-found (c .before .before .before .before .before .before .serving .inv) _ _ _ (c .before .before .before .before .if1 .taken) (c .before .before .before .before .before .loop .inv .1) (c .before .before .before .in-time .ensures) ∙ c .before .c .given .1
+-- ---- the places that are gone back to
+abbrev Serving : Type 0
+Serving = tie.At-serving Inv-loop μ-loop Inv-serving μ-serving
 
-told : (c : tie.After-known-told Inv-loop μ-loop Inv-serving μ-serving) → Next (c .before .before .before .before .before .before .before .before .before .args .t) (view (c .before .before .before .before .before .before .serving .self)) (c .before .c .given .0 .0)
+abbrev Handed : Type 0
+Handed = tie.After-known-told Inv-loop μ-loop Inv-serving μ-serving
+
+abbrev serving : Handed → Serving
+serving c = c .before .before .before .before .before .before
+
+abbrev second : Handed → Seconds
+second c = serving c .before .before .before .args .t
+
+abbrev hold : Handed → Due
+hold c = c .before .c .given .0 .0
+
+-- ---- where the inner loop hands a hold over, that is the next one
+found : (c : Handed) → next-due (second c) (view (serving c .serving .self)) ≡ At (hold c)
+found c =
+    let searched = c .before .before .before in
+    going-found (serving c .serving .inv) _ _ _ (searched .before .if1 .taken) (searched .before .before .loop .inv .1) (searched .in-time .ensures) ∙ c .before .c .given .1
+
+told : (c : Handed) → Next (second c) (view (serving c .serving .self)) (hold c)
 told c = next-is _ _ _ (found c)
 
 serving-holds : tie.Need-serving-holds Inv-loop μ-loop Inv-serving μ-serving
@@ -69,32 +87,35 @@ loop-again c =
     let g = c .before .before .before .before .before .serving .inv in
     (omega arith, passed-turn _ (c .before .before .before .before .before .before .before .before .args .t1 .count) (c .before .before .before .before .before .serving .self .lines) (c .before .before .before .before .loop .i) _ _ (omega arith) (omega arith) (c .passed .ensures) (c .before .before .before .before .loop .inv .1))
 
-mul-l-2 : tie.Need-mul-l-2 Inv-loop μ-loop Inv-serving μ-serving
-mul-l-2 c = let g = c .before .before .before .before .before .before .serving .inv in omega (arith, told c .place, ranged-length (g .ranged))
+mul-id : tie.Need-mul-id Inv-loop μ-loop Inv-serving μ-serving
+mul-id c = let g = serving c .serving .inv in omega (arith, told c .place, ranged-length (g .ranged))
 
-element-copy-out-l-2 : tie.Need-element-copy-out-l-2 Inv-loop μ-loop Inv-serving μ-serving
-element-copy-out-l-2 c = let g = c .before .before .before .before .before .before .serving .inv in omega (arith, told c .place, ranged-length (g .ranged))
+element-copy-out-id : tie.Need-element-copy-out-id Inv-loop μ-loop Inv-serving μ-serving
+element-copy-out-id c = let g = serving c .serving .inv in omega (arith, told c .place, ranged-length (g .ranged))
 
 mul-shifts : tie.Need-mul-shifts Inv-loop μ-loop Inv-serving μ-serving
-mul-shifts c = omega (arith, told (c .before .before) .left)
+mul-shifts c = omega (arith, told (c .before) .left)
 
 array-set-from-shifts : tie.Need-array-set-from-shifts Inv-loop μ-loop Inv-serving μ-serving
-array-set-from-shifts c = omega (arith, told (c .before .before) .left)
+array-set-from-shifts c = omega (arith, told (c .before) .left)
 
 add-made : tie.Need-add-made Inv-loop μ-loop Inv-serving μ-serving
-add-made c = omega (arith, told (c .before .before) .left)
+add-made c = omega (arith, told (c .before) .left)
 
 shifted-requires : tie.Need-shifted-requires Inv-loop μ-loop Inv-serving μ-serving
-shifted-requires c κs = (c .before .before .before .before .before .before .before .before .serving .inv .ranged, told (c .before .before) .left)
+shifted-requires c κs = (serving (c .before) .serving .inv .ranged, told (c .before) .left)
 
 serving-less : tie.Need-serving-less Inv-loop μ-loop Inv-serving μ-serving
 unfolding shifted
 serving-less c =
-    let o = told (c .before .before .before) .left in
+    let o = told (c .before .before) .left in
     rw (c .shifted .ensures) (omega arith)
 
 serving-again : tie.Need-serving-again Inv-loop μ-loop Inv-serving μ-serving
-serving-again c = going-turn (c .before .before .before .before .before .before .before .before .before .serving .inv) _ _ _ (found (c .before .before .before)) (line-is (c .before .before .before .before .before .before .before .before .before .serving .inv) _ (told (c .before .before .before))) (c .shifted .ensures)
+serving-again c =
+    let at = c .before .before in
+    let g = serving at .serving .inv in
+    going-turn g _ _ _ (found at) (line-is g _ (told at)) (c .shifted .ensures)
 
 returns : tie.Need-returns Inv-loop μ-loop Inv-serving μ-serving
 returns c =
@@ -120,8 +141,8 @@ served-spec =
     add-i
     loop-less
     loop-again
-    mul-l-2
-    element-copy-out-l-2
+    mul-id
+    element-copy-out-id
     mul-shifts
     array-set-from-shifts
     add-made

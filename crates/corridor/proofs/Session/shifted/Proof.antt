@@ -26,11 +26,11 @@ loop-holds : tie.Need-loop-holds Inv-loop μ-loop
 unfolding changed
 loop-holds c = (omega arith, refl)
 
-mul-l : tie.Need-mul-l Inv-loop μ-loop
-mul-l c = search needs
+mul-shift-line : tie.Need-mul-shift-line Inv-loop μ-loop
+mul-shift-line c = search needs
 
-element-copy-out-l : tie.Need-element-copy-out-l Inv-loop μ-loop
-element-copy-out-l c = search needs
+element-copy-out-shift-line : tie.Need-element-copy-out-shift-line Inv-loop μ-loop
+element-copy-out-shift-line c = search needs
 
 shift-line-requires : tie.Need-shift-line-requires Inv-loop μ-loop
 shift-line-requires c κs =
@@ -70,8 +70,8 @@ shifted-spec =
     μ-loop
     sub-left
     loop-holds
-    mul-l
-    element-copy-out-l
+    mul-shift-line
+    element-copy-out-shift-line
     shift-line-requires
     mul-m
     element-set-from-m
