@@ -4,7 +4,8 @@ use mathlib.Core.List.{List}
 use lib.IntN.{ℤ, pos}
 use Rattle.method.specs.Refusals.{event-number, report-said}
 use Rattle.host.specs.Names.{EventReason, Report, ReportAnswer}
-use Rattle.host.specs.Told.{report-rows, report-into}
+use Rattle.reporting.specs.Told.{report-rows}
+use Rattle.host.specs.Told.{report-into}
 
 pub report-none : (a : ReportAnswer) (out : List (List ℤ)) → a ≡ ReportAnswer.Refused EventReason.UnknownId
     → (pos 13 ≡ pos (report-said a .number)) × (out ≡ report-into out a)

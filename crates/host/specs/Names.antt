@@ -1,10 +1,7 @@
 -- The data of `numbers`, `method` and `corridor` that this crate names.
-pub use Rattle.numbers.specs.declared.Steps.{Steps}
 pub use Rattle.numbers.specs.declared.Millionths.{Millionths}
 pub use Rattle.numbers.specs.declared.Seconds.{Seconds}
 pub use Rattle.method.specs.declared.Limits.{Limits}
-pub use Rattle.method.specs.declared.Price.{Price}
-pub use Rattle.method.specs.declared.Price.the-variants.{Absent, Given}
 pub use Rattle.method.specs.declared.Holds.{Holds}
 pub use Rattle.method.specs.declared.Line.{Line}
 pub use Rattle.corridor.specs.declared.Session.{Session}
@@ -13,8 +10,5 @@ pub use Rattle.method.specs.declared.EventAnswer.{EventAnswer}
 pub use Rattle.method.specs.declared.EventReason.{EventReason}
 pub use Rattle.method.specs.declared.LimitsAnswer.{LimitsAnswer}
 pub use Rattle.method.specs.declared.PlaceAnswer.{PlaceAnswer}
-pub use Rattle.method.specs.declared.BothBounds.{BothBounds}
-pub use Rattle.method.specs.declared.HoldReport.{HoldReport}
-pub use Rattle.method.specs.declared.HoldReport.the-variants.{NoHold, Holding}
 pub use Rattle.method.specs.declared.Report.{Report}
 pub use Rattle.method.specs.declared.ReportAnswer.{ReportAnswer}

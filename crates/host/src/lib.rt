@@ -15,7 +15,6 @@ use packed::memory;
 pub mod entry;
 pub mod events;
 pub mod questions;
-pub mod reporting;
 
 // Opens a session. Beside a refusal stands one in which no contract is known, so that the memory has a sound session in any case.
 #[no_mangle]

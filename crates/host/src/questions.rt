@@ -12,7 +12,6 @@ ghost use Rattle.corridor.specs.View.{view, Valid};
 ghost use Rattle.corridor.specs.Asked.{sought};
 ghost use Rattle.packed.specs.Packed.{session-in};
 ghost use Rattle.host.specs.Told.{told-into, place-number, report-into};
-use crate::reporting;
 use corridor::questions::Sought;
 use method::EventReason;
 use method::Line;

@@ -6,7 +6,7 @@ use Rattle.method.specs.Report.{report}
 use Rattle.method.specs.Ranges.{Room}
 use Rattle.corridor.specs.View.{view}
 use Rattle.corridor.specs.declared.questions.Sought.{Sought}
-use Rattle.host.specs.Told.{report-rows}
+use Rattle.reporting.specs.Told.{report-rows}
 use Rattle.corridor.specs.Asked.{sought}
 use Rattle.packed.specs.Packed.{session-in}
 use Rattle.corridor.proofs.Asking.{sought-every, report-by}

@@ -1,12 +1,12 @@
--- `host::reporting::limit_row` meets its contract. Assumes nothing.
+-- `reporting::limit_row` meets its contract. Assumes nothing.
 use borrow.Author.Needs.{needs}
 use mathlib.Core.Path.{ap, _∙_}
 use mathlib.Core.List.{List, [], _∷_}
 use lib.IntN.{ℤ}
-use Rattle.host.specs.Names.{Steps, Limits, BothBounds}
-use Rattle.host.specs.Told.{limit-row}
-use Rattle.host.proofs.reporting.limit_row.Statement.{statement}
-use Rattle.host.proofs.reporting.limit_row.Tie as tie
+use Rattle.reporting.specs.Names.{Steps, Limits, BothBounds}
+use Rattle.reporting.specs.Told.{limit-row}
+use Rattle.reporting.proofs.limit_row.Statement.{statement}
+use Rattle.reporting.proofs.limit_row.Tie as tie
 
 mark-number-requires : tie.Need-mark-number-requires
 mark-number-requires c κs = search needs

@@ -1,12 +1,12 @@
--- `host::reporting::book_row` meets its contract. Assumes nothing.
+-- `reporting::book_row` meets its contract. Assumes nothing.
 use borrow.Author.Needs.{needs}
 use mathlib.Core.Path.{_∙_}
 use mathlib.Core.List.{List, [], _∷_}
 use lib.IntN.{ℤ}
-use Rattle.host.specs.declared.reporting.PriceNumbers.{PriceNumbers}
-use Rattle.host.specs.Told.{book-row}
-use Rattle.host.proofs.reporting.book_row.Statement.{statement}
-use Rattle.host.proofs.reporting.book_row.Tie as tie
+use Rattle.reporting.specs.declared.PriceNumbers.{PriceNumbers}
+use Rattle.reporting.specs.Told.{book-row}
+use Rattle.reporting.proofs.book_row.Statement.{statement}
+use Rattle.reporting.proofs.book_row.Tie as tie
 
 wide-requires : tie.Need-wide-requires
 wide-requires c κs = search needs

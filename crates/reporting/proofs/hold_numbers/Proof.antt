@@ -1,11 +1,11 @@
--- `host::reporting::hold_numbers` meets its contract. Assumes nothing.
+-- `reporting::hold_numbers` meets its contract. Assumes nothing.
 use borrow.Author.Needs.{needs}
 use mathlib.Core.Path.{sym, ap, _∙_}
 use lib.IntN.{ℤ, pos}
-use Rattle.host.specs.declared.reporting.HoldNumbers.{HoldNumbers}
-use Rattle.host.specs.Told.{hold-told}
-use Rattle.host.proofs.reporting.hold_numbers.Statement.{statement}
-use Rattle.host.proofs.reporting.hold_numbers.Tie as tie
+use Rattle.reporting.specs.declared.HoldNumbers.{HoldNumbers}
+use Rattle.reporting.specs.Told.{hold-told}
+use Rattle.reporting.proofs.hold_numbers.Statement.{statement}
+use Rattle.reporting.proofs.hold_numbers.Tie as tie
 
 enum-told : tie.Need-enum-told
 enum-told c = search needs

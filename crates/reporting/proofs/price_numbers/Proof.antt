@@ -1,9 +1,9 @@
--- `host::reporting::price_numbers` meets its contract. Assumes nothing.
+-- `reporting::price_numbers` meets its contract. Assumes nothing.
 use borrow.Author.Needs.{needs}
 use mathlib.Core.Path.{sym, ap, _∙_}
-use Rattle.host.specs.Told.{price-told}
-use Rattle.host.proofs.reporting.price_numbers.Statement.{statement}
-use Rattle.host.proofs.reporting.price_numbers.Tie as tie
+use Rattle.reporting.specs.Told.{price-told}
+use Rattle.reporting.proofs.price_numbers.Statement.{statement}
+use Rattle.reporting.proofs.price_numbers.Tie as tie
 
 enum-told : tie.Need-enum-told
 enum-told c = search needs

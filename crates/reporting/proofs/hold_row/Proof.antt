@@ -1,12 +1,12 @@
--- `host::reporting::hold_row` meets its contract. Assumes nothing.
+-- `reporting::hold_row` meets its contract. Assumes nothing.
 use borrow.Author.Needs.{needs}
 use mathlib.Core.Path.{_∙_}
 use mathlib.Core.List.{List, [], _∷_}
 use lib.IntN.{ℤ}
-use Rattle.host.specs.declared.reporting.HoldNumbers.{HoldNumbers}
-use Rattle.host.specs.Told.{hold-row}
-use Rattle.host.proofs.reporting.hold_row.Statement.{statement}
-use Rattle.host.proofs.reporting.hold_row.Tie as tie
+use Rattle.reporting.specs.declared.HoldNumbers.{HoldNumbers}
+use Rattle.reporting.specs.Told.{hold-row}
+use Rattle.reporting.proofs.hold_row.Statement.{statement}
+use Rattle.reporting.proofs.hold_row.Tie as tie
 
 hold-numbers-requires : tie.Need-hold-numbers-requires
 hold-numbers-requires c κs = search needs

@@ -1,10 +1,10 @@
--- `host::reporting::report_rows` meets its contract. Assumes nothing.
+-- `reporting::report_rows` meets its contract. Assumes nothing.
 use borrow.Author.Needs.{needs}
 use mathlib.Core.Path.{_∙_}
 use mathlib.Core.List.{[], _∷_}
-use Rattle.host.specs.Told.{book-row, report-rows}
-use Rattle.host.proofs.reporting.report_rows.Statement.{statement}
-use Rattle.host.proofs.reporting.report_rows.Tie as tie
+use Rattle.reporting.specs.Told.{book-row, report-rows}
+use Rattle.reporting.proofs.report_rows.Statement.{statement}
+use Rattle.reporting.proofs.report_rows.Tie as tie
 
 price-numbers-requires : tie.Need-price-numbers-requires
 price-numbers-requires c κs = search needs

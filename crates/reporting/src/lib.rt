@@ -3,7 +3,7 @@
 ghost use mathlib.Core.Path.{_≡_};
 ghost use mathlib.Core.Bool.{cond};
 ghost use lib.IntN.{pos};
-ghost use Rattle.host.specs.Told.{hold-told, price-told, limit-row, market-row, hold-row, book-row, report-rows};
+ghost use Rattle.reporting.specs.Told.{hold-told, price-told, limit-row, market-row, hold-row, book-row, report-rows};
 use method::BothBounds;
 use method::HoldReport;
 use method::Limits;
@@ -12,7 +12,7 @@ use method::Report;
 use numbers::Seconds;
 use numbers::Steps;
 
-pub(crate) fn mark_number(b: bool) -> i64
+pub fn mark_number(b: bool) -> i64
     ensures { λ r. ⌜ r ≡ cond b (pos 1) (pos 0) ⌝ }
 {
     if b { 1 } else { 0 }
@@ -116,7 +116,7 @@ fn book_row(bid: PriceNumbers, ask: PriceNumbers, left: u32, clock: Seconds) -> 
     ]
 }
 
-pub(crate) fn report_rows(r: Report) -> [[i64; 6]; 4]
+pub fn report_rows(r: Report) -> [[i64; 6]; 4]
     ensures { λ ns. ⌜ ns ≡ report-rows r ⌝ }
 {
     let limits = r.limits;

@@ -1,9 +1,9 @@
--- `host::reporting::wide` meets its contract. Assumes nothing.
+-- `reporting::wide` meets its contract. Assumes nothing.
 use borrow.Author.Needs.{needs}
 use native.Mathlib.Omega.{arith}
 use Rattle.numbers.proofs.Machine.{cast-back}
-use Rattle.host.proofs.reporting.wide.Statement.{statement}
-use Rattle.host.proofs.reporting.wide.Tie as tie
+use Rattle.reporting.proofs.wide.Statement.{statement}
+use Rattle.reporting.proofs.wide.Tie as tie
 
 cast-result : tie.Need-cast-result
 cast-result c = search needs

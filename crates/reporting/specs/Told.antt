@@ -1,0 +1,54 @@
+-- What a host is told of one line, in numbers: all that stands on it, in the order of `report-said`, as four rows of six numbers. Each value
+-- has its own place, and 0 stands where a hold or a price does not.
+use mathlib.Core.Bool.{cond}
+use mathlib.Core.List.{List, [], _∷_}
+use Prim.Native.Nat.{ℕ}
+use lib.IntN.{ℤ, pos}
+use Rattle.reporting.specs.Names.{
+  Steps,
+  Seconds,
+  Limits,
+  Price,
+  Absent,
+  Given,
+  BothBounds,
+  HoldReport,
+  NoHold,
+  Holding,
+  Report,
+}
+use Rattle.reporting.specs.declared.HoldNumbers.{HoldNumbers}
+use Rattle.reporting.specs.declared.PriceNumbers.{PriceNumbers}
+
+unfoldable pub hold-told : HoldReport → HoldNumbers
+hold-told NoHold = record { stands = pos 0; start = pos 0; due = pos 0 }
+hold-told (Holding h) = record { stands = pos 1; start = pos (h .start .0); due = pos (h .due .0) }
+
+unfoldable pub price-told : Price → PriceNumbers
+price-told Absent = record { given = pos 0; price = pos 0 }
+price-told (Given p) = record { given = pos 1; price = p .0 }
+
+-- the limits, whether the lower one is frozen, the interest bounds, the centre
+unfoldable pub limit-row : Limits → BothBounds → Steps → List ℤ
+limit-row k b centre = k .lower .0 ∷ k .upper .0 ∷ cond (k .frozen) (pos 1) (pos 0) ∷ b .lower .0 ∷ b .upper .0 ∷ centre .0 ∷ []
+
+-- the market bounds of levels 1 to 3
+unfoldable pub market-row : BothBounds → BothBounds → BothBounds → List ℤ
+market-row a b c = a .lower .0 ∷ a .upper .0 ∷ b .lower .0 ∷ b .upper .0 ∷ c .lower .0 ∷ c .upper .0 ∷ []
+
+-- the up and the down hold
+unfoldable pub hold-row : HoldReport → HoldReport → List ℤ
+hold-row u d =
+    hold-told u .stands ∷ hold-told u .start ∷ hold-told u .due ∷ hold-told d .stands ∷ hold-told d .start ∷ hold-told d .due ∷ []
+
+-- the bid, the ask, the shifts left, the clock
+unfoldable pub book-row : PriceNumbers → PriceNumbers → ℕ → Seconds → List ℤ
+book-row b a left clock = b .given ∷ b .price ∷ a .given ∷ a .price ∷ pos left ∷ pos (clock .0) ∷ []
+
+unfoldable pub report-rows : Report → List (List ℤ)
+report-rows r =
+    limit-row (r .limits) (r .interest) (r .centre)
+    ∷ market-row (r .level1) (r .level2) (r .level3)
+    ∷ hold-row (r .up) (r .down)
+    ∷ book-row (price-told (r .book .bid)) (price-told (r .book .ask)) (r .left) (r .clock)
+    ∷ []
