@@ -1,5 +1,1 @@
-pub mod Replies
-pub mod Asking
-pub mod Reports
-pub mod Turns
 pub mod Refusing
