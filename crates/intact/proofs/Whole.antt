@@ -11,7 +11,7 @@ use Rattle.method.specs.Ranges.{Room}
 use Rattle.method.specs.Sound.{Exact, Distinct}
 use Rattle.method.specs.declared.Line.{Line}
 use Rattle.method.specs.declared.Found.the-variants.{Nothing}
-use Rattle.soundness.proofs.Whole.{Parts, rows-all, all-rows, parts-sane, parts-sound, parts-of}
+use Rattle.soundness.proofs.Whole.{rows-all, all-rows, none-due-done, done-none-due}
 use Rattle.corridor.specs.declared.Session.{Session}
 use Rattle.corridor.specs.View.{view, Valid}
 use Rattle.packed.specs.Packed.{line-in, session-in}
@@ -33,17 +33,21 @@ module _ {s : Session} where
   pub valid-so : length (s .lines) ≡ 32 → BesideIn s → LinesIn s → Distinct (ids (view s .lines)) × (due-by (view s) ≡ Nothing) → Valid s
   valid-so full b lines (distinct, none) =
       let all = rows-all (s .near) (s .left) (s .lines) (s .count) (omega (arith, b .few)) lines in
-      let p : Parts (s .count) (view s) = record { beside = b; rooms = all .0; exact = all .1; none-due = none } in
-      record { full = full; few = b .few; sane = parts-sane p; sound = parts-sound p; distinct = distinct }
-
-  parts : Valid s → Parts (s .count) (view s)
-  parts v = parts-of (v .few) (v .sane) (v .sound)
+      record {
+        full = full;
+        few = b .few;
+        sane = record { hold = b .hold; end = b .end; clock = b .clock; left = b .left; near = b .near; rooms = all .0 };
+        sound = record { waits = b .hold .least; exact = all .1; served = none-due-done (s .clock) (view s) (all .1) none };
+        distinct = distinct;
+      }
 
   pub valid-beside : Valid s → BesideIn s
-  valid-beside v = parts v .beside
+  valid-beside v =
+      let r = v .sane in
+      record { few = v .few; hold = r .hold; end = r .end; clock = r .clock; left = r .left; near = r .near }
 
   pub valid-lines : Valid s → LinesIn s
-  valid-lines v = all-rows (s .near) (s .left) (s .lines) (s .count) (omega (arith, v .few, v .full)) (parts v .rooms) (parts v .exact)
+  valid-lines v = all-rows (s .near) (s .left) (s .lines) (s .count) (omega (arith, v .few, v .full)) (v .sane .rooms) (v .sound .exact)
 
   pub valid-together : Valid s → Distinct (ids (view s .lines)) × (due-by (view s) ≡ Nothing)
-  valid-together v = (v .distinct, parts v .none-due)
+  valid-together v = (v .distinct, done-none-due (s .clock) (view s) (v .sound .served))

@@ -7,7 +7,7 @@ use Rattle.method.specs.Sound.{Exact}
 use Rattle.method.specs.Search.{earliest, in-time}
 use Rattle.method.specs.declared.Found.{Found}
 use Rattle.method.specs.declared.Found.the-variants.{Nothing}
-use Rattle.soundness.specs.Beside.{Beside}
+use Rattle.beside.specs.Beside.{Beside}
 use Rattle.corridor.specs.declared.Session.{Session}
 
 -- what it has beside its lines

@@ -2,10 +2,10 @@
 // only numbers that passed are worked with.
 
 ghost use mathlib.Core.Path.{_≡_};
+ghost use Rattle.numbers.specs.Decides.{Decides};
 ghost use Rattle.method.specs.declared.Found.the-variants.{Nothing};
 ghost use Rattle.method.specs.Opening.{ids};
 ghost use Rattle.method.specs.Sound.{Distinct};
-ghost use Rattle.soundness.specs.Decides.{Decides};
 ghost use Rattle.corridor.specs.View.{view, Valid};
 ghost use Rattle.packed.specs.Packed.{session-in};
 ghost use Rattle.intact.specs.Tests.{BesideIn, LinesIn, due-by};
@@ -20,7 +20,7 @@ fn beside(session: &[[u64; 21]; 33]) -> bool
     ensures { λ r. ⌜ Decides r (BesideIn (session-in (now (session .entry)))) ⌝ }
 {
     let head = session[32];
-    soundness::beside(
+    beside::in_range(
         head[0] as usize,
         Seconds(reading::word(head[1])),
         Seconds(reading::word(head[2])),
@@ -71,7 +71,7 @@ fn together(session: &[[u64; 21]; 33]) -> bool
         let down = reading::hold(session[i][19], session[i][20]);
         best = due::passed(wait, i, Holds { up: up, down: down }, best);
     }
-    if !soundness::distinct(&ids[..n]) {
+    if !beside::distinct(&ids[..n]) {
         return false;
     }
     match due::in_time(clock, end, reading::word(head[4]), best) {

@@ -1,4 +1,2 @@
-pub mod Deciding
 pub mod Records
-pub mod Ids
 pub mod Whole

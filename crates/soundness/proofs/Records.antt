@@ -11,9 +11,11 @@ use mir.Syntax.{w64}
 use mir.Val.{SFits}
 use Rattle.numbers.specs.Ranges.{Within, Span}
 use Rattle.numbers.specs.Tests.{in-span}
+use Rattle.numbers.specs.Decides.{Decides}
 use Rattle.numbers.proofs.Halves.{zarith, sub-is, neg-is}
 use Rattle.numbers.proofs.Ranges.{fits, within-more, within-pos, within-lit, within-sub}
 use Rattle.numbers.proofs.Tests.{never-both, in-span-true, within-in}
+use Rattle.numbers.proofs.Deciding.{decided}
 use Rattle.method.specs.Opening.{permits-negative}
 use Rattle.method.specs.Bounds.{bound}
 use Rattle.method.specs.Pressure.{presses}
@@ -23,8 +25,6 @@ use Rattle.method.proofs.Rooms.{span-within, upper-in, lower-in}
 use Rattle.bounds.specs.Asks.{Drawn}
 use Rattle.pressure.specs.Asks.{Pressed}
 use Rattle.soundness.specs.Names.{Steps, Millionths, Seconds, Up, Down, Terms, Market, Limits, Price, Absent, Given, Hold, Idle, Since, Line}
-use Rattle.soundness.specs.Decides.{Decides}
-use Rattle.soundness.proofs.Deciding.{decided}
 
 -- ---- how far the market reaches
 module _ (left : ℕ) {most : ℤ} (e : most ≡ pos (reach left)) where

@@ -1,4 +1,4 @@
--- What the parts of a session, each decided by itself, say together: the ranges, and the soundness, of its state. Assumes nothing.
+-- What is decided of each row, said of all of them; and that no hold is left to serve where the search finds none. Assumes nothing.
 use mathlib.Core.Path.{_≡_, refl, sym, _∙_}
 use mathlib.Core.List.{List}
 use Prim.Native.Nat.{ℕ, zero, suc, _≤_, _<_}
@@ -8,24 +8,23 @@ use lib.Seq.{take-suc, getD-take, length-take-le}
 use Rattle.method.specs.Types.{State, blank}
 use Rattle.method.specs.CalledFor.{Done, Calls}
 use Rattle.method.specs.Search.{earliest, in-time, next-due, serve}
-use Rattle.method.specs.Ranges.{Every, Room, Sane}
-use Rattle.method.specs.Sound.{Exact, Sound}
+use Rattle.method.specs.Ranges.{Every, Room}
+use Rattle.method.specs.Sound.{Exact}
 use Rattle.method.proofs.Every.{every-at, every-last}
 use Rattle.method.proofs.FirstFound.{FoundIn, next-due-found}
 use Rattle.method.proofs.HoldLife.{Judged}
 use Rattle.method.proofs.Serving.{serve-calls}
 use Rattle.due.proofs.Finding.{none-left}
 use Rattle.soundness.specs.Names.{Millionths, Seconds, Line, Due, Found, Nothing, At}
-use Rattle.soundness.specs.Beside.{Beside}
 
 -- ---- the first n rows of an array, row by row
 module _ {A : Type 0} (P : A → Type 0) (xs : List A) (d : A) where
-  pub every-first : (n : ℕ) → n ≤ length xs → ((i : ℕ) → i < n → P (getD xs i d)) → Every P (take n xs)
+  every-first : (n : ℕ) → n ≤ length xs → ((i : ℕ) → i < n → P (getD xs i d)) → Every P (take n xs)
   every-first zero h p = unfold Every in tt
   every-first (suc n) h p =
       rw (take-suc xs n d) (every-last P (take n xs) (getD xs n d) (every-first n (omega arith) (λ i g. p i (omega arith))) (p n (omega arith)))
 
-  pub first-every : (n : ℕ) → n ≤ length xs → Every P (take n xs) → (i : ℕ) → i < n → P (getD xs i d)
+  first-every : (n : ℕ) → n ≤ length xs → Every P (take n xs) → (i : ℕ) → i < n → P (getD xs i d)
   first-every n h ps i g =
       let inside : i < length (take n xs) = rw (length-take-le n xs h) g in
       rw (getD-take n xs i d g) at (every-at P (take n xs) d i ps inside)
@@ -75,33 +74,3 @@ done-none-due t s h = go (s .left) refl
     go : (n : ℕ) → s .left ≡ n → due-by t s ≡ Nothing
     go zero q = none-left t (s .end) (s .left) (earliest (s .hold) 0 (s .lines) Nothing) q
     go (suc n) q = sym (next-is t s) ∙ done-found t s (next-due t s) (next-due-found t s (omega arith)) h
-
-pub due-not-done : (t : Seconds) (s : State) {x : Due} → due-by t s ≡ At x → Done t s → ⊥
-due-not-done t s e h = nothing-at (sym (done-none-due t s h) ∙ e)
-
--- ---- the whole
--- All of a state's parts: what is beside the lines, each line, and that no hold is due by the clock.
-pub record Parts (count : ℕ) (s : State) : Type 0 where
-  pub beside : Beside count (s .clock) (s .end) (s .hold) (s .left) (s .near)
-  pub rooms : Every (Room (s .left)) (s .lines)
-  pub exact : Every (Exact (s .near) (s .left)) (s .lines)
-  pub none-due : due-by (s .clock) s ≡ Nothing
-
-module _ {count : ℕ} {s : State} where
-  pub parts-sane : Parts count s → Sane s
-  parts-sane p =
-      let b = p .beside in
-      record { hold = b .hold; end = b .end; clock = b .clock; left = b .left; near = b .near; rooms = p .rooms }
-
-  pub parts-sound : Parts count s → Sound s
-  parts-sound p =
-      record { waits = p .beside .hold .least; exact = p .exact; served = none-due-done (s .clock) s (p .exact) (p .none-due) }
-
-  pub parts-of : count ≤ 32 → Sane s → Sound s → Parts count s
-  parts-of h r q =
-      record {
-        beside = record { few = h; hold = r .hold; end = r .end; clock = r .clock; left = r .left; near = r .near };
-        rooms = r .rooms;
-        exact = q .exact;
-        none-due = done-none-due (s .clock) s (q .served);
-      }

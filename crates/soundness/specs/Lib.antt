@@ -1,4 +1,1 @@
 pub mod Names
-pub mod Decides
-pub mod Beside
-pub mod Without

@@ -3,10 +3,10 @@
 ghost use mathlib.Core.Path.{_≡_};
 ghost use mathlib.Core.Bool.{_&&_};
 ghost use lib.Dec.{ltb};
+ghost use Rattle.numbers.specs.Decides.{Decides};
 ghost use Rattle.method.specs.Pressure.{hold-of, presses};
 ghost use Rattle.method.specs.Sound.{standing, Exact};
 ghost use Rattle.pressure.specs.Asks.{Pressed};
-ghost use Rattle.soundness.specs.Decides.{Decides};
 use method::Hold;
 use method::Holds;
 use method::Line;

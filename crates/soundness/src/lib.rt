@@ -1,22 +1,18 @@
-// Whether the parts of a session are as in every session. A host keeps a session in memory of its own and may have damaged it, so each
-// function here takes whatever numbers it finds there, and decides a fact that the methods of a session ask.
+// Whether a line is as in every session. A host keeps a session in memory of its own and may have damaged it, so any numbers may stand on a
+// line, and what the methods of a session ask of it is decided.
 
 ghost use Prim.Native.Nat.{_≤_};
-ghost use lib.ListN.{length, drop};
+ghost use Rattle.numbers.specs.Decides.{Decides};
 ghost use Rattle.method.specs.Ranges.{Room};
-ghost use Rattle.method.specs.Sound.{Exact, Distinct};
-ghost use Rattle.soundness.specs.Beside.{Beside};
-ghost use Rattle.soundness.specs.Decides.{Decides};
-ghost use Rattle.soundness.specs.Without.{Without};
+ghost use Rattle.method.specs.Sound.{Exact};
 use method::Line;
 use numbers::Millionths;
-use numbers::Seconds;
 
 mod exact;
 mod room;
 
-// Of a line: its ranges, and holds exactly where it presses. Pressure is worked out only once the ranges are known. How many shifts are left
-// and the near share are those that `beside` found in range.
+// Its ranges, and holds exactly where it presses. Pressure is worked out only once the ranges are known. How many shifts are left and the
+// near share are those of its session, which are in range.
 pub fn line(near: Millionths, left: u32, l: Line) -> bool
     requires { ⌜ (left ≤ 16) × (near .0 ≤ 500_000) ⌝ }
     ensures { λ r. ⌜ Decides r (Room left l × Exact near left l) ⌝ }
@@ -25,64 +21,4 @@ pub fn line(near: Millionths, left: u32, l: Line) -> bool
         return false;
     }
     exact::exact(near, left, l)
-}
-
-// Whether an id stands at no place from `from` on.
-fn absent(ids: &[u32], from: usize, id: u32) -> bool
-    requires { ⌜ from ≤ length (now ids) ⌝ }
-    ensures { λ r. ⌜ Decides r (Without id (drop from (now (ids .entry)))) ⌝ }
-{
-    let n = ids.len();
-    let mut i: usize = from;
-    while i < n {
-        if ids[i] == id {
-            return false;
-        }
-        i = i + 1;
-    }
-    true
-}
-
-// Whether no id stands twice.
-pub fn distinct(ids: &[u32]) -> bool
-    ensures { λ r. ⌜ Decides r (Distinct (now (ids .entry))) ⌝ }
-{
-    let n = ids.len();
-    let mut i: usize = 0;
-    while i < n {
-        if !absent(ids, i + 1, ids[i]) {
-            return false;
-        }
-        i = i + 1;
-    }
-    true
-}
-
-// Of what a session has beside its lines: `count` of its rows are in use.
-pub fn beside(
-    count: usize,
-    clock: Seconds,
-    end: Seconds,
-    hold: Seconds,
-    left: u32,
-    near: Millionths,
-) -> bool
-    ensures { λ r. ⌜ Decides r (Beside count clock end hold left near) ⌝ }
-{
-    if 32 < count {
-        return false;
-    }
-    if !numbers::in_range(1, 3600, hold.0) {
-        return false;
-    }
-    if 172800 < end.0 {
-        return false;
-    }
-    if end.0 < clock.0 {
-        return false;
-    }
-    if 16 < left {
-        return false;
-    }
-    numbers::in_range(1, 500000, near.0)
 }

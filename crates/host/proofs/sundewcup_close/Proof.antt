@@ -1,7 +1,7 @@
 -- `host::sundewcup_close` meets its contract, whatever numbers stand in the memory. Assumes nothing.
 use borrow.Author.Needs.{needs}
 use mathlib.Core.Path.{refl}
-use Rattle.soundness.proofs.Deciding.{granted}
+use Rattle.numbers.proofs.Deciding.{granted}
 use Rattle.host.proofs.Refusing.{tells, denies}
 use Rattle.host.proofs.sundewcup_close.Statement.{statement}
 use Rattle.host.proofs.sundewcup_close.Tie as tie

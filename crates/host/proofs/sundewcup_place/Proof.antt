@@ -6,7 +6,7 @@ use lib.IntN.{ℤ}
 use mir.Facts.{toZ-ofZ}
 use Rattle.method.specs.Types.{steps}
 use Rattle.method.specs.Event.{place}
-use Rattle.soundness.proofs.Deciding.{granted}
+use Rattle.numbers.proofs.Deciding.{granted}
 use Rattle.corridor.specs.View.{view}
 use Rattle.packed.specs.Packed.{session-in}
 use Rattle.asking.specs.Told.{place-number}

@@ -8,8 +8,8 @@ use Rattle.intact.proofs.beside.Tie as tie
 element-copy-out-head : tie.Need-element-copy-out-head
 element-copy-out-head c = search needs
 
-array-read-beside : tie.Need-array-read-beside
-array-read-beside c = search needs
+array-read-in-range : tie.Need-array-read-in-range
+array-read-in-range c = search needs
 
 array-read-word : tie.Need-array-read-word
 array-read-word c = search needs
@@ -41,20 +41,20 @@ array-read-word-5 c = search needs
 word-requires-5 : tie.Need-word-requires-5
 word-requires-5 c κs = search needs
 
-beside-requires : tie.Need-beside-requires
-beside-requires c κs = search needs
+in-range-requires : tie.Need-in-range-requires
+in-range-requires c κs = search needs
 
 returns : tie.Need-returns
 unfolding session-in
 returns c =
-    rw (sym (c .before .before .before .before .before .word .ensures), sym (c .before .before .before .before .word2 .ensures), sym (c .before .before .before .word3 .ensures), sym (c .before .before .word4 .ensures), sym (c .before .word5 .ensures)) (c .beside .ensures)
+    rw (sym (c .before .before .before .before .before .word .ensures), sym (c .before .before .before .before .word2 .ensures), sym (c .before .before .before .word3 .ensures), sym (c .before .before .word4 .ensures), sym (c .before .word5 .ensures)) (c .in-range .ensures)
 
 pub beside-spec : {M : Type 1} → statement M
 beside-spec =
     tie.close
     (tie.spec
     element-copy-out-head
-    array-read-beside
+    array-read-in-range
     array-read-word
     word-requires
     array-read-word-2
@@ -65,5 +65,5 @@ beside-spec =
     word-requires-4
     array-read-word-5
     word-requires-5
-    beside-requires
+    in-range-requires
     returns)

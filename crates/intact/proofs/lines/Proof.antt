@@ -9,7 +9,7 @@ use denote.Ref.{now}
 use lib.ListN.{length, getD}
 use Rattle.method.specs.Types.{blank, millionths}
 use Rattle.numbers.specs.declared.Millionths.{Millionths}
-use Rattle.soundness.proofs.Deciding.{kept, broken}
+use Rattle.numbers.proofs.Deciding.{kept, broken}
 use Rattle.soundness.proofs.Whole.{Rows}
 use Rattle.corridor.specs.declared.Session.{Session}
 use Rattle.packed.specs.Packed.{session-in}

@@ -1,7 +1,7 @@
 -- `intact::sound` meets its contract. Assumes nothing.
 use borrow.Author.Needs.{needs}
 use denote.Ref.{now}
-use Rattle.soundness.proofs.Deciding.{kept, broken, decides-same}
+use Rattle.numbers.proofs.Deciding.{kept, broken, decides-same}
 use Rattle.packed.specs.Packed.{session-in}
 use Rattle.intact.specs.Tests.{BesideIn, LinesIn}
 use Rattle.intact.proofs.Whole.{full-in, valid-so, valid-beside, valid-lines, valid-together}

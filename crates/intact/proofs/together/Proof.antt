@@ -7,6 +7,7 @@ use native.Mathlib.Omega.{arith}
 use denote.Ref.{now}
 use lib.ListN.{length, getD, set, take}
 use lib.Seq.{length-take-le}
+use Rattle.numbers.proofs.Deciding.{kept, broken}
 use Rattle.method.specs.Types.{blank, seconds}
 use Rattle.method.specs.Opening.{ids}
 use Rattle.method.specs.Search.{passed, earliest, in-time}
@@ -15,7 +16,6 @@ use Rattle.method.specs.Sound.{Distinct}
 use Rattle.method.specs.declared.Holds.{Holds}
 use Rattle.method.specs.declared.Found.{Found}
 use Rattle.method.specs.declared.Found.the-variants.{Nothing, At}
-use Rattle.soundness.proofs.Deciding.{kept, broken}
 use Rattle.soundness.proofs.Whole.{nothing-at}
 use Rattle.corridor.specs.declared.Session.{Session}
 use Rattle.corridor.specs.View.{view}

@@ -1,6 +1,6 @@
 -- `soundness::line` meets its contract. Assumes nothing.
 use borrow.Author.Needs.{needs}
-use Rattle.soundness.proofs.Deciding.{kept, broken, decides-same}
+use Rattle.numbers.proofs.Deciding.{kept, broken, decides-same}
 use Rattle.soundness.proofs.Records.{pressed}
 use Rattle.soundness.proofs.line.Statement.{statement}
 use Rattle.soundness.proofs.line.Tie as tie

@@ -1,6 +1,6 @@
 -- `soundness::room::book` meets its contract. Assumes nothing.
 use borrow.Author.Needs.{needs}
-use Rattle.soundness.proofs.Deciding.{kept, broken, decides-same}
+use Rattle.numbers.proofs.Deciding.{kept, broken, decides-same}
 use Rattle.soundness.proofs.room.book.Statement.{statement}
 use Rattle.soundness.proofs.room.book.Tie as tie
 

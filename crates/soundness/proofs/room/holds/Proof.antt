@@ -1,6 +1,6 @@
 -- `soundness::room::holds` meets its contract. Assumes nothing.
 use borrow.Author.Needs.{needs}
-use Rattle.soundness.proofs.Deciding.{kept, broken, decides-same}
+use Rattle.numbers.proofs.Deciding.{kept, broken, decides-same}
 use Rattle.soundness.proofs.room.holds.Statement.{statement}
 use Rattle.soundness.proofs.room.holds.Tie as tie
 

@@ -1,8 +1,8 @@
 -- `soundness::room::limits` meets its contract. Assumes nothing.
 use borrow.Author.Needs.{needs}
 use Rattle.numbers.proofs.Tests.{failed, held, between-true, span-in}
+use Rattle.numbers.proofs.Deciding.{decides-same}
 use Rattle.method.proofs.Decided.{denied}
-use Rattle.soundness.proofs.Deciding.{decides-same}
 use Rattle.soundness.proofs.Records.{lower-spans, upper-spans, spans-limits}
 use Rattle.soundness.proofs.room.limits.Statement.{statement}
 use Rattle.soundness.proofs.room.limits.Tie as tie

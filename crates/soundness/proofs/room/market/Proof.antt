@@ -1,8 +1,8 @@
 -- `soundness::room::market` meets its contract. Assumes nothing.
 use borrow.Author.Needs.{needs}
 use Rattle.numbers.proofs.Tests.{failed, held, between-true, span-in, in-span-true, within-in}
+use Rattle.numbers.proofs.Deciding.{decided, decides-same}
 use Rattle.method.proofs.Decided.{denied}
-use Rattle.soundness.proofs.Deciding.{decided, decides-same}
 use Rattle.soundness.proofs.room.market.Statement.{statement}
 use Rattle.soundness.proofs.room.market.Tie as tie
 

@@ -2,8 +2,8 @@
 use borrow.Author.Needs.{needs}
 use native.Mathlib.Omega.{arith}
 use Rattle.numbers.proofs.Tests.{failed, held, between-true, span-in}
+use Rattle.numbers.proofs.Deciding.{decides-same}
 use Rattle.method.proofs.Decided.{denied}
-use Rattle.soundness.proofs.Deciding.{decides-same}
 use Rattle.soundness.proofs.room.terms.Statement.{statement}
 use Rattle.soundness.proofs.room.terms.Tie as tie
 

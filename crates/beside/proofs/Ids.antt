@@ -9,7 +9,7 @@ use lib.Seq.{drop-cons, drop-length, getD-drop}
 use Rattle.method.specs.Ranges.{Every}
 use Rattle.method.specs.Sound.{Distinct}
 use Rattle.method.proofs.Every.{every-at}
-use Rattle.soundness.specs.Without.{Without}
+use Rattle.beside.specs.Without.{Without}
 
 past-end : (ids : List ℕ) (i : ℕ) → i ≡ length ids → drop i ids ≡ []
 past-end ids i e = ap (λ (k : ℕ). drop k ids) e ∙ drop-length ids

@@ -1,7 +1,8 @@
 -- The ranges of what a session has beside its lines: how many rows are in use, and the fields of `Sane` but the lines' own.
 use Prim.Native.Nat.{ℕ, _≤_}
 use Rattle.numbers.specs.Ranges.{Between}
-use Rattle.soundness.specs.Names.{Seconds, Millionths}
+use Rattle.numbers.specs.declared.Seconds.{Seconds}
+use Rattle.numbers.specs.declared.Millionths.{Millionths}
 
 pub record Beside (count : ℕ) (now last wait : Seconds) (shifts : ℕ) (share : Millionths) : Type 0 where
   pub few : count ≤ 32

@@ -1,12 +1,12 @@
--- `soundness::absent` meets its contract. Assumes nothing.
+-- `beside::absent` meets its contract. Assumes nothing.
 use denote.Ref.{now}
 use Prim.Native.Nat.{_-_, _≤_}
 use native.Mathlib.Omega.{arith}
 use lib.ListN.{drop}
-use Rattle.soundness.specs.Without.{Without}
-use Rattle.soundness.proofs.Ids.{without-at, without-more, without-end}
-use Rattle.soundness.proofs.absent.Statement.{statement}
-use Rattle.soundness.proofs.absent.Tie as tie
+use Rattle.beside.specs.Without.{Without}
+use Rattle.beside.proofs.Ids.{without-at, without-more, without-end}
+use Rattle.beside.proofs.absent.Statement.{statement}
+use Rattle.beside.proofs.absent.Tie as tie
 
 abbrev Inv-loop : tie.InvT-loop
 Inv-loop ids from id n i₀ i = (from ≤ i) × (i ≤ n) × (Without id (drop i ids) → Without id (drop from ids))

@@ -1,11 +1,11 @@
--- `soundness::beside` meets its contract. Assumes nothing.
+-- `beside::in_range` meets its contract. Assumes nothing.
 use borrow.Author.Needs.{needs}
 use native.Mathlib.Omega.{arith}
 use Rattle.numbers.proofs.Tests.{failed, held, in-range-true, range-in}
+use Rattle.numbers.proofs.Deciding.{decided, decides-same}
 use Rattle.method.proofs.Decided.{denied}
-use Rattle.soundness.proofs.Deciding.{decided, decides-same}
-use Rattle.soundness.proofs.beside.Statement.{statement}
-use Rattle.soundness.proofs.beside.Tie as tie
+use Rattle.beside.proofs.in_range.Statement.{statement}
+use Rattle.beside.proofs.in_range.Tie as tie
 
 returns : tie.Need-returns
 returns c = search needs
@@ -41,8 +41,8 @@ returns-6 c =
     })
     (λ q. q .near) (decided (in-range-true _ _ _) range-in (c .in-range2 .ensures))
 
-pub beside-spec : {M : Type 1} → statement M
-beside-spec =
+pub in-range-spec : {M : Type 1} → statement M
+in-range-spec =
     tie.close
     (tie.spec
     returns

@@ -1,13 +1,13 @@
--- `soundness::distinct` meets its contract. Assumes nothing.
+-- `beside::distinct` meets its contract. Assumes nothing.
 use denote.Ref.{now}
 use Prim.Native.Nat.{_-_, _≤_}
 use native.Mathlib.Omega.{arith}
 use lib.ListN.{drop}
+use Rattle.numbers.proofs.Deciding.{kept, broken}
 use Rattle.method.specs.Sound.{Distinct}
-use Rattle.soundness.proofs.Deciding.{kept, broken}
-use Rattle.soundness.proofs.Ids.{distinct-at, distinct-more, distinct-end}
-use Rattle.soundness.proofs.distinct.Statement.{statement}
-use Rattle.soundness.proofs.distinct.Tie as tie
+use Rattle.beside.proofs.Ids.{distinct-at, distinct-more, distinct-end}
+use Rattle.beside.proofs.distinct.Statement.{statement}
+use Rattle.beside.proofs.distinct.Tie as tie
 
 abbrev Inv-loop : tie.InvT-loop
 Inv-loop ids n i₀ i = (i ≤ n) × (Distinct (drop i ids) → Distinct ids)
