@@ -11,7 +11,7 @@ ghost use Rattle.method.specs.Report.{line-report, report};
 ghost use Rattle.method.specs.Ranges.{Room};
 ghost use Rattle.corridor.specs.View.{view, Valid};
 ghost use Rattle.corridor.specs.Asked.{sought};
-ghost use Rattle.packed.specs.Packed.{session-in};
+ghost use Rattle.memory.specs.Memory.{session-in};
 ghost use Rattle.asking.specs.Told.{told-into, place-number, report-into};
 use corridor::questions::Sought;
 use method::EventReason;

@@ -3,7 +3,7 @@ use mathlib.Core.List.{List}
 use Prim.Native.Nat.{ℕ}
 use lib.IntN.{ℤ, pos}
 use Rattle.corridor.specs.View.{Valid}
-use Rattle.packed.specs.Packed.{session-in}
+use Rattle.memory.specs.Memory.{session-in}
 
 -- no refusal of the method has this number
 abbrev pub damaged : ℤ

@@ -15,7 +15,7 @@ ghost use Rattle.rows.specs.Buffer.{written};
 ghost use Rattle.corridor.specs.View.{view, Valid, opened-session};
 ghost use Rattle.corridor.specs.Feeding.{fed, fed-into};
 ghost use Rattle.corridor.specs.Closing.{closed, closed-into};
-ghost use Rattle.packed.specs.Packed.{session-in};
+ghost use Rattle.memory.specs.Memory.{session-in};
 ghost use Rattle.asking.specs.Told.{told-into, place-number, report-into};
 ghost use Rattle.hosting.specs.Told.{line-said, reply-in, shift-rows, Leaves, number-in};
 ghost use Rattle.host.specs.Told.{damaged, damaged-count, Tells};
@@ -25,7 +25,7 @@ ghost use Rattle.host.specs.Told.{damaged, damaged-count, Tells};
 pub extern "C" fn sundewcup_session_numbers() -> usize
     ensures { λ r. ⌜ r ≡ 693 ⌝ }
 {
-    packed::memory::numbers()
+    memory::numbers()
 }
 
 // Opens a session. Beside a refusal stands one in which no contract is known, so that the memory has a sound session in any case.

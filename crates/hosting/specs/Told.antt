@@ -9,7 +9,7 @@ use Rattle.method.specs.declared.Row.the-variants as Row
 use Rattle.corridor.specs.declared.Reply.{Reply}
 use Rattle.corridor.specs.declared.RowsAnswer.{RowsAnswer}
 use Rattle.corridor.specs.Engine.{reply-to}
-use Rattle.packed.specs.Packed.{session-in}
+use Rattle.memory.specs.Memory.{session-in}
 use Rattle.hosting.specs.Names.{TableAnswer, Session}
 
 -- ---- a table

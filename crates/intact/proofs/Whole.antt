@@ -14,7 +14,8 @@ use Rattle.method.specs.declared.Found.the-variants.{Nothing}
 use Rattle.soundness.proofs.Whole.{rows-all, all-rows, none-due-done, done-none-due}
 use Rattle.corridor.specs.declared.Session.{Session}
 use Rattle.corridor.specs.View.{view, Valid}
-use Rattle.packed.specs.Packed.{line-in, session-in}
+use Rattle.packed.specs.Packed.{line-in}
+use Rattle.memory.specs.Memory.{session-in}
 use Rattle.intact.specs.Tests.{BesideIn, LinesIn, due-by}
 
 pub full-in : (rows : List (List ℕ)) → length rows ≡ 33 → length (session-in rows .lines) ≡ 32

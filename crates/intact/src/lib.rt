@@ -7,13 +7,12 @@ ghost use Rattle.method.specs.declared.Found.the-variants.{Nothing};
 ghost use Rattle.method.specs.Opening.{ids};
 ghost use Rattle.method.specs.Sound.{Distinct};
 ghost use Rattle.corridor.specs.View.{view, Valid};
-ghost use Rattle.packed.specs.Packed.{session-in};
+ghost use Rattle.memory.specs.Memory.{session-in};
 ghost use Rattle.intact.specs.Tests.{BesideIn, LinesIn, due-by};
 use method::Found;
 use method::Holds;
 use numbers::Millionths;
 use numbers::Seconds;
-use packed::memory;
 use packed::reading;
 
 fn beside(session: &[[u64; 21]; 33]) -> bool

@@ -1,8 +1,6 @@
--- The data of `numbers`, `method` and `corridor` that this crate names.
-pub use Rattle.numbers.specs.declared.Seconds.{Seconds}
+-- The data of `method` that this crate names.
 pub use Rattle.method.specs.declared.Price.{Price}
 pub use Rattle.method.specs.declared.Price.the-variants.{Absent, Given}
 pub use Rattle.method.specs.declared.Hold.{Hold}
 pub use Rattle.method.specs.declared.Hold.the-variants.{Idle, Since}
 pub use Rattle.method.specs.declared.Line.{Line}
-pub use Rattle.corridor.specs.declared.Session.{Session}

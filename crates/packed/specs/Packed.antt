@@ -1,13 +1,12 @@
--- A session in memory that the host owns: 33 rows of 21 numbers. A line stands in each of the first 32 rows, and in the last one what the
--- session has beside its lines. Any numbers read as some session, so nothing is asked of memory that `open` is to fill.
+-- A line as a row of 21 numbers. Any numbers read as some line, so nothing is asked of a row.
 use mathlib.Core.Bool.{Bool, cond}
-use mathlib.Core.List.{List, [], map}
+use mathlib.Core.List.{List}
 use Prim.Native.Nat.{ℕ, _/_, _%_}
 use lib.Dec.{eqb, ltb}
 use lib.IntN.{ℤ, pos, negsuc}
-use lib.ListN.{getD, set, take}
-use Rattle.method.specs.Types.{steps, millionths, seconds, billionths}
-use Rattle.packed.specs.Names.{Seconds, Price, Absent, Given, Hold, Idle, Since, Line, Session}
+use lib.ListN.{getD}
+use Rattle.method.specs.Types.{steps, seconds, billionths}
+use Rattle.packed.specs.Names.{Price, Absent, Given, Hold, Idle, Since, Line}
 
 -- ---- one number
 abbrev pub word-in : ℕ → ℕ
@@ -29,9 +28,6 @@ unfoldable pub hold-in : ℕ → ℕ → Hold
 hold-in there n = cond (mark-in there) (Since (seconds (word-in n))) Idle
 
 -- ---- a row
-abbrev pub no-row : List ℕ
-no-row = []
-
 abbrev pub at : List ℕ → ℕ → ℕ
 at row k = getD row k 0
 
@@ -57,27 +53,3 @@ line-in r =
       book = record { bid = price-in (at r 13) (at r 14); ask = price-in (at r 15) (at r 16) };
       holds = record { up = hold-in (at r 17) (at r 18); down = hold-in (at r 19) (at r 20) };
     }
-
--- ---- the whole memory
-abbrev pub head-of : List (List ℕ) → List ℕ
-head-of rows = getD rows 32 no-row
-
-unfoldable pub session-in : List (List ℕ) → Session
-session-in rows =
-    record {
-      lines = map line-in (take 32 rows);
-      count = at (head-of rows) 0;
-      clock = seconds (word-in (at (head-of rows) 1));
-      end = seconds (word-in (at (head-of rows) 2));
-      hold = seconds (word-in (at (head-of rows) 3));
-      left = word-in (at (head-of rows) 4);
-      near = millionths (word-in (at (head-of rows) 5));
-    }
-
--- ---- a session with another line at a place, and with another clock
-abbrev pub with-line : Session → ℕ → Line → Session
-with-line s p l =
-    record { lines = set (s .lines) p l; count = s .count; clock = s .clock; end = s .end; hold = s .hold; left = s .left; near = s .near }
-
-abbrev pub with-clock : Session → Seconds → Session
-with-clock s t = record { lines = s .lines; count = s .count; clock = t; end = s .end; hold = s .hold; left = s .left; near = s .near }

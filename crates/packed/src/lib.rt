@@ -1,5 +1,4 @@
-// A session as 33 rows of 21 numbers, so that it can lie in a host's memory: a type that holds an enum does not go to C.
+// A line as a row of 21 numbers, so that it can lie in a host's memory: a type that holds an enum does not go to C.
 
-pub mod memory;
 pub mod reading;
 pub mod writing;

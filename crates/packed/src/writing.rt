@@ -7,7 +7,7 @@ use method::Line;
 use method::Price;
 use numbers::Steps;
 
-pub(crate) fn word_number(n: u32) -> u64
+pub fn word_number(n: u32) -> u64
     ensures { λ r. ⌜ word-in r ≡ n ⌝ }
 {
     n as u64

@@ -11,8 +11,8 @@ use native.Mathlib.Omega.{arith}
 use denote.Ref.{now}
 use Rattle.corridor.proofs.Named.{Walk, walk-start, walk-met, walk-turn, walk-all}
 use Rattle.corridor.specs.declared.questions.Sought.{Sought}
-use Rattle.packed.specs.Packed.{session-in}
-use Rattle.packed.proofs.Places.{count-is, line-at}
+use Rattle.memory.specs.Memory.{session-in}
+use Rattle.memory.proofs.Places.{count-is, line-at}
 use Rattle.corridor.proofs.Asking.{sought-met, sought-unmet}
 use Rattle.asking.proofs.found.Statement.{statement}
 use Rattle.asking.proofs.found.Tie as tie

@@ -5,7 +5,7 @@ use denote.Ref.{now}
 use Rattle.method.specs.Event.{limits}
 use Rattle.corridor.specs.View.{view}
 use Rattle.corridor.specs.declared.questions.Sought.{Sought}
-use Rattle.packed.specs.Packed.{session-in}
+use Rattle.memory.specs.Memory.{session-in}
 use Rattle.corridor.proofs.Asking.{limits-by}
 use Rattle.asking.proofs.Answers.{limits-none, limits-some}
 use Rattle.asking.proofs.limits.Statement.{statement}

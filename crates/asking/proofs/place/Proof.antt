@@ -8,7 +8,7 @@ use Rattle.method.specs.Types.{steps}
 use Rattle.method.specs.Event.{placed}
 use Rattle.corridor.specs.View.{view}
 use Rattle.corridor.specs.declared.questions.Sought.{Sought}
-use Rattle.packed.specs.Packed.{session-in}
+use Rattle.memory.specs.Memory.{session-in}
 use Rattle.asking.specs.Told.{place-number}
 use Rattle.corridor.proofs.Asking.{place-by}
 use Rattle.asking.proofs.place.Statement.{statement}

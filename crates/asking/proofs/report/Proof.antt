@@ -8,7 +8,7 @@ use Rattle.corridor.specs.View.{view}
 use Rattle.corridor.specs.declared.questions.Sought.{Sought}
 use Rattle.reporting.specs.Told.{report-rows}
 use Rattle.corridor.specs.Asked.{sought}
-use Rattle.packed.specs.Packed.{session-in}
+use Rattle.memory.specs.Memory.{session-in}
 use Rattle.corridor.proofs.Asking.{sought-every, report-by}
 use Rattle.asking.proofs.Answers.{report-none, report-some}
 use Rattle.asking.proofs.report.Statement.{statement}

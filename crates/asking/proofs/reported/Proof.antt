@@ -7,8 +7,8 @@ use Rattle.method.specs.Types.{seconds}
 use Rattle.method.specs.Report.{line-report}
 use Rattle.method.specs.Ranges.{Room}
 use Rattle.asking.specs.Names.{Session}
-use Rattle.packed.specs.Packed.{session-in}
-use Rattle.packed.proofs.Places.{clock-is, hold-is, left-is}
+use Rattle.memory.specs.Memory.{session-in}
+use Rattle.memory.proofs.Places.{clock-is, hold-is, left-is}
 use Rattle.asking.proofs.reported.Statement.{statement}
 use Rattle.asking.proofs.reported.Tie as tie
 

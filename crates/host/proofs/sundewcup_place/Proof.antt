@@ -8,7 +8,7 @@ use Rattle.method.specs.Types.{steps}
 use Rattle.method.specs.Event.{place}
 use Rattle.numbers.proofs.Deciding.{granted}
 use Rattle.corridor.specs.View.{view}
-use Rattle.packed.specs.Packed.{session-in}
+use Rattle.memory.specs.Memory.{session-in}
 use Rattle.asking.specs.Told.{place-number}
 use Rattle.host.proofs.Refusing.{tells, denies}
 use Rattle.host.proofs.sundewcup_place.Statement.{statement}

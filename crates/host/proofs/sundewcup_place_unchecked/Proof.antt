@@ -7,7 +7,7 @@ use mir.Facts.{toZ-ofZ}
 use Rattle.method.specs.Types.{steps}
 use Rattle.method.specs.Event.{place}
 use Rattle.corridor.specs.View.{view}
-use Rattle.packed.specs.Packed.{session-in}
+use Rattle.memory.specs.Memory.{session-in}
 use Rattle.asking.specs.Told.{place-number}
 use Rattle.host.proofs.sundewcup_place_unchecked.Statement.{statement}
 use Rattle.host.proofs.sundewcup_place_unchecked.Tie as tie

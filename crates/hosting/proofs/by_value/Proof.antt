@@ -5,7 +5,7 @@ use Rattle.method.specs.Search.{answer}
 use Rattle.rows.specs.Buffer.{written}
 use Rattle.corridor.specs.Engine.{reply-to}
 use Rattle.hosting.specs.Names.{Session}
-use Rattle.packed.specs.Packed.{session-in}
+use Rattle.memory.specs.Memory.{session-in}
 use Rattle.hosting.specs.Told.{reply-in, shift-rows}
 use Prim.Native.Nat.{_≤_}
 use Rattle.corridor.specs.declared.Reply.{Reply}

@@ -15,7 +15,7 @@ use Rattle.corridor.specs.View.{view}
 use Rattle.corridor.proofs.Saying.{Changes, Says, Takes, session-says}
 use Rattle.corridor.proofs.Events.{refused-is, handed}
 use Rattle.hosting.specs.Names.{Session}
-use Rattle.packed.specs.Packed.{session-in}
+use Rattle.memory.specs.Memory.{session-in}
 use Rattle.hosting.specs.Told.{reply-in, shift-rows}
 use Rattle.hosting.proofs.Replies.{event-told, event-taken}
 use Rattle.hosting.proofs.Turns.{nothing-due, unserved, quote-goes, reply-quiet}

@@ -19,8 +19,8 @@ use Rattle.corridor.proofs.Due.{row-passes}
 use Rattle.corridor.proofs.Quiet.{Until, until-turn, until-end}
 use Rattle.corridor.proofs.Gathered.{Gathered, gathered-none, gathered-turn, gathered-all}
 use Rattle.hosting.specs.Names.{Holds}
-use Rattle.packed.specs.Packed.{session-in}
-use Rattle.packed.proofs.Places.{count-is, clock-is, end-is, hold-is, id-at, holds-at}
+use Rattle.memory.specs.Memory.{session-in}
+use Rattle.memory.proofs.Places.{count-is, clock-is, end-is, hold-is, id-at, holds-at}
 use Rattle.hosting.proofs.looked.Statement.{statement}
 use Rattle.hosting.proofs.looked.Tie as tie
 

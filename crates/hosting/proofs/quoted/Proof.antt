@@ -7,8 +7,8 @@ use Rattle.method.specs.Types.{blank, millionths}
 use Rattle.method.specs.Event.{with-book, quoted-line}
 use Rattle.pressure.specs.Asks.{Pressed}
 use Rattle.hosting.specs.Names.{Millionths, Line, Session}
-use Rattle.packed.specs.Packed.{session-in, with-line}
-use Rattle.packed.proofs.Places.{left-is, near-is, line-at}
+use Rattle.memory.specs.Memory.{session-in, with-line}
+use Rattle.memory.proofs.Places.{left-is, near-is, line-at}
 use Rattle.hosting.proofs.quoted.Statement.{statement}
 use Rattle.hosting.proofs.quoted.Tie as tie
 

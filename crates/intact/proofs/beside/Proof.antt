@@ -1,7 +1,7 @@
 -- `intact::beside` meets its contract. Assumes nothing.
 use borrow.Author.Needs.{needs}
 use mathlib.Core.Path.{sym}
-use Rattle.packed.specs.Packed.{session-in}
+use Rattle.memory.specs.Memory.{session-in}
 use Rattle.intact.proofs.beside.Statement.{statement}
 use Rattle.intact.proofs.beside.Tie as tie
 

@@ -12,8 +12,8 @@ use Rattle.numbers.specs.declared.Millionths.{Millionths}
 use Rattle.numbers.proofs.Deciding.{kept, broken}
 use Rattle.soundness.proofs.Whole.{Rows}
 use Rattle.corridor.specs.declared.Session.{Session}
-use Rattle.packed.specs.Packed.{session-in}
-use Rattle.packed.proofs.Places.{count-is, left-is, near-is, line-at}
+use Rattle.memory.specs.Memory.{session-in}
+use Rattle.memory.proofs.Places.{count-is, left-is, near-is, line-at}
 use Rattle.intact.proofs.Whole.{Fit, carried, full-in}
 use Rattle.intact.proofs.lines.Statement.{statement}
 use Rattle.intact.proofs.lines.Tie as tie

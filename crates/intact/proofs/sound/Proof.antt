@@ -2,7 +2,7 @@
 use borrow.Author.Needs.{needs}
 use denote.Ref.{now}
 use Rattle.numbers.proofs.Deciding.{kept, broken, decides-same}
-use Rattle.packed.specs.Packed.{session-in}
+use Rattle.memory.specs.Memory.{session-in}
 use Rattle.intact.specs.Tests.{BesideIn, LinesIn}
 use Rattle.intact.proofs.Whole.{full-in, valid-so, valid-beside, valid-lines, valid-together}
 use Rattle.intact.proofs.sound.Statement.{statement}

@@ -21,8 +21,8 @@ use Rattle.corridor.specs.declared.Session.{Session}
 use Rattle.corridor.specs.View.{view}
 use Rattle.corridor.proofs.Due.{Passed, passed-turn, passed-all}
 use Rattle.corridor.proofs.Gathered.{Gathered, gathered-none, gathered-turn, gathered-all}
-use Rattle.packed.specs.Packed.{head-of, session-in}
-use Rattle.packed.proofs.Places.{count-is, clock-is, end-is, hold-is, left-is, id-at, holds-at}
+use Rattle.memory.specs.Memory.{head-of, session-in}
+use Rattle.memory.proofs.Places.{count-is, clock-is, end-is, hold-is, left-is, id-at, holds-at}
 use Rattle.intact.specs.Tests.{due-by}
 use Rattle.intact.proofs.Whole.{full-in}
 use Rattle.intact.proofs.together.Statement.{statement}

@@ -1,4 +1,4 @@
--- `packed::memory::kept` meets its contract. Assumes nothing.
+-- `memory::kept` meets its contract. Assumes nothing.
 use borrow.Author.Needs.{needs}
 use mathlib.Core.Path.{_≡_, refl, _∙_}
 use mathlib.Core.List.{map}
@@ -7,10 +7,10 @@ use native.Mathlib.Omega.{arith}
 use lib.ListN.{length, take, length-set}
 use Rattle.numbers.proofs.Arrays.{full}
 use Rattle.method.specs.Types.{blank}
 use Rattle.packed.specs.Packed.{line-in}
-use Rattle.packed.proofs.Rows.{store-turn, stored}
-use Rattle.packed.proofs.memory.kept.Statement.{statement}
-use Rattle.packed.proofs.memory.kept.Tie as tie
+use Rattle.memory.proofs.AllRows.{store-turn, stored}
+use Rattle.memory.proofs.kept.Statement.{statement}
+use Rattle.memory.proofs.kept.Tie as tie
 
 abbrev Inv-loop : tie.InvT-loop
 Inv-loop memory₀ s i₀ memory i = (i ≤ 32) × (length memory ≡ 33) × (length (s .lines) ≡ 32) × (map line-in (take i memory) ≡ take i (s .lines))

@@ -1,9 +1,9 @@
--- `packed::memory::with_clock` meets its contract. Assumes nothing.
+-- `memory::with_clock` meets its contract. Assumes nothing.
 use borrow.Author.Needs.{needs}
 use denote.Ref.{now}
-use Rattle.packed.proofs.Places.{clock-stored}
-use Rattle.packed.proofs.memory.with_clock.Statement.{statement}
-use Rattle.packed.proofs.memory.with_clock.Tie as tie
+use Rattle.memory.proofs.Places.{clock-stored}
+use Rattle.memory.proofs.with_clock.Statement.{statement}
+use Rattle.memory.proofs.with_clock.Tie as tie
 
 rows-requires : tie.Need-rows-requires
 rows-requires c κs = search needs

@@ -1,4 +1,4 @@
--- `packed::memory::taken` meets its contract. Assumes nothing.
+-- `memory::taken` meets its contract. Assumes nothing.
 use borrow.Author.Needs.{needs}
 use mathlib.Core.Path.{_≡_, refl, _∙_}
 use mathlib.Core.List.{map}
@@ -6,10 +6,11 @@ use Prim.Native.Nat.{_-_, _≤_}
 use native.Mathlib.Omega.{arith}
 use denote.Ref.{now}
 use lib.ListN.{length, take, length-set}
-use Rattle.packed.specs.Packed.{at, line-in, no-row, head-of, session-in}
-use Rattle.packed.proofs.Rows.{session-of, gather-turn, all-lines}
-use Rattle.packed.proofs.memory.taken.Statement.{statement}
-use Rattle.packed.proofs.memory.taken.Tie as tie
+use Rattle.packed.specs.Packed.{at, line-in}
+use Rattle.memory.specs.Memory.{no-row, head-of, session-in}
+use Rattle.memory.proofs.AllRows.{session-of, gather-turn, all-lines}
+use Rattle.memory.proofs.taken.Statement.{statement}
+use Rattle.memory.proofs.taken.Tie as tie
 
 abbrev Inv-loop : tie.InvT-loop
 Inv-loop memory lines₀ i₀ lines i = (i ≤ 32) × (length memory ≡ 33) × (length lines ≡ 32) × (take i lines ≡ map line-in (take i memory))

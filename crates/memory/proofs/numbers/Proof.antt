@@ -1,8 +1,8 @@
--- `packed::memory::numbers` meets its contract. Assumes nothing.
+-- `memory::numbers` meets its contract. Assumes nothing.
 use borrow.Author.Needs.{needs}
 use mathlib.Core.Path.{refl}
-use Rattle.packed.proofs.memory.numbers.Statement.{statement}
-use Rattle.packed.proofs.memory.numbers.Tie as tie
+use Rattle.memory.proofs.numbers.Statement.{statement}
+use Rattle.memory.proofs.numbers.Tie as tie
 
 add-result : tie.Need-add-result
 add-result c = search needs

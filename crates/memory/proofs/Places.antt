@@ -6,9 +6,10 @@ use native.Mathlib.Omega.{arith}
 use lib.ListN.{length, getD, set, take, List·getD-map}
 use lib.Seq.{getD-take, take-set-le, take-set-lt, getD-set-same, getD-set-other}
 use Rattle.method.specs.Types.{blank, seconds, millionths}
-use Rattle.packed.specs.Names.{Seconds, Line, Session}
-use Rattle.packed.specs.Packed.{at, word-in, hold-in, line-in, no-row, head-of, session-in, with-line, with-clock}
-use Rattle.packed.proofs.Rows.{session-of}
+use Rattle.packed.specs.Packed.{at, word-in, hold-in, line-in}
+use Rattle.memory.specs.Names.{Seconds, Line, Session}
+use Rattle.memory.specs.Memory.{no-row, head-of, session-in, with-line, with-clock}
+use Rattle.memory.proofs.AllRows.{session-of}
 
 -- ---- beside the lines
 pub count-is : (rows : List (List ℕ)) → at (head-of rows) 0 ≡ session-in rows .count

@@ -7,8 +7,9 @@ use native.Mathlib.Omega.{arith}
 use lib.ListN.{length, getD, set, take}
 use lib.Seq.{take-suc, take-suc-set, take-set-le, take-all, getD-set-same}
 use Rattle.method.specs.Types.{seconds, millionths}
-use Rattle.packed.specs.Names.{Line, Session}
-use Rattle.packed.specs.Packed.{at, word-in, line-in, no-row, head-of, session-in}
+use Rattle.packed.specs.Packed.{at, word-in, line-in}
+use Rattle.memory.specs.Names.{Line, Session}
+use Rattle.memory.specs.Memory.{no-row, head-of, session-in}
 
 -- ---- a list of images, one after another
 module _ {A B : Type 0} (f : A → B) (xs : List A) (ys : List B) (i : ℕ) (h : i < length xs) (g : i < length ys) where

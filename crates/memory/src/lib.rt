@@ -1,15 +1,17 @@
-// The whole session out of the host's memory and into it; and one line of it, or its clock, where it lies.
+// A session as 33 rows of 21 numbers, in memory that a host owns: the whole session out of it and into it; and one line of it, or its clock,
+// where it lies.
 
 ghost use mathlib.Core.Path.{_≡_};
 ghost use Prim.Native.Nat.{_<_};
 ghost use lib.ListN.{length};
-ghost use Rattle.packed.specs.Packed.{at, word-in, session-in, with-line, with-clock};
-use crate::reading;
-use crate::writing;
+ghost use Rattle.packed.specs.Packed.{at, word-in};
+ghost use Rattle.memory.specs.Memory.{session-in, with-line, with-clock};
 use corridor::Session;
 use method::Line;
 use numbers::Millionths;
 use numbers::Seconds;
+use packed::reading;
+use packed::writing;
 
 // Each line has a row, and one more row is the last.
 const LINES: usize = 32;
@@ -89,7 +91,6 @@ pub fn with_line(memory: &mut [[u64; 21]; 33], place: usize, l: Line)
     requires { ⌜ place < 32 ⌝ }
     ensures { λ _. ⌜ session-in (now (memory .exit)) ≡ with-line (session-in (now (memory .entry))) place l ⌝ }
 {
-    rows(memory);
     memory[place] = writing::row(l);
 }
 

@@ -1,7 +1,7 @@
--- `packed::memory::with_time` meets its contract. Assumes nothing.
+-- `memory::with_time` meets its contract. Assumes nothing.
 use borrow.Author.Needs.{needs}
-use Rattle.packed.proofs.memory.with_time.Statement.{statement}
-use Rattle.packed.proofs.memory.with_time.Tie as tie
+use Rattle.memory.proofs.with_time.Statement.{statement}
+use Rattle.memory.proofs.with_time.Tie as tie
 
 word-number-requires : tie.Need-word-number-requires
 word-number-requires c κs = search needs
