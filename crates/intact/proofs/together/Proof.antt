@@ -13,9 +13,7 @@ use Rattle.method.specs.Opening.{ids}
 use Rattle.method.specs.Search.{passed, earliest, in-time}
 use Rattle.method.specs.Ranges.{HoldsIn}
 use Rattle.method.specs.Sound.{Distinct}
-use Rattle.method.specs.declared.Holds.{Holds}
-use Rattle.method.specs.declared.Found.{Found}
-use Rattle.method.specs.declared.Found.the-variants.{Nothing, At}
+use Rattle.method.specs.declared.Found.the-variants.{Nothing}
 use Rattle.soundness.proofs.Whole.{nothing-at}
 use Rattle.corridor.specs.declared.Session.{Session}
 use Rattle.corridor.specs.View.{view}
