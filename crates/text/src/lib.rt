@@ -71,29 +71,61 @@ fn put_letter(buffer: &mut [u8], at: usize, letter: u8) -> usize
     at + 2
 }
 
-// One row, by its kind: a shift, a refused event, a refused table, a closing line. 110 bytes at most.
+// A shift: its second, its side, the id of the line that called.
+fn shift(row: [i64; 6], buffer: &mut [u8], at: usize) -> usize
+    requires { ⌜ at + 46 ≤ length (now buffer) ⌝ }
+    ensures { λ r. ⌜ r ≤ at + 46 ⌝ }
+{
+    let second = put(buffer, at, row[1], b' ');
+    let side = put_letter(buffer, second, side_letter(row[2]));
+    put(buffer, side, row[3], b'\n')
+}
+
+// A refused event: its number.
+fn refused_event(row: [i64; 6], buffer: &mut [u8], at: usize) -> usize
+    requires { ⌜ at + 24 ≤ length (now buffer) ⌝ }
+    ensures { λ r. ⌜ r ≤ at + 24 ⌝ }
+{
+    let letter = put_letter(buffer, at, b'R');
+    put(buffer, letter, row[1], b'\n')
+}
+
+// A refused table: the number, and the line of the table.
+fn refused_table(row: [i64; 6], buffer: &mut [u8], at: usize) -> usize
+    requires { ⌜ at + 46 ≤ length (now buffer) ⌝ }
+    ensures { λ r. ⌜ r ≤ at + 46 ⌝ }
+{
+    let letter = put_letter(buffer, at, b'T');
+    let number = put(buffer, letter, row[1], b' ');
+    put(buffer, number, row[2], b'\n')
+}
+
+// A closing line: the id, both limits, both interest bounds.
+fn closing(row: [i64; 6], buffer: &mut [u8], at: usize) -> usize
+    requires { ⌜ at + 110 ≤ length (now buffer) ⌝ }
+    ensures { λ r. ⌜ r ≤ at + 110 ⌝ }
+{
+    let id = put(buffer, at, row[1], b' ');
+    let lower = put(buffer, id, row[2], b' ');
+    let upper = put(buffer, lower, row[3], b' ');
+    let lowerbound = put(buffer, upper, row[4], b' ');
+    put(buffer, lowerbound, row[5], b'\n')
+}
+
+// One row, by its kind: 110 bytes at most.
 pub fn line(row: [i64; 6], buffer: &mut [u8], at: usize) -> usize
     requires { ⌜ at + 110 ≤ length (now buffer) ⌝ }
     ensures { λ r. ⌜ r ≤ at + 110 ⌝ }
 {
     let kind = row[0];
     if kind == 1 {
-        let second = put(buffer, at, row[1], b' ');
-        let side = put_letter(buffer, second, side_letter(row[2]));
-        return put(buffer, side, row[3], b'\n');
+        return shift(row, buffer, at);
     }
     if kind == 2 {
-        let letter = put_letter(buffer, at, b'R');
-        return put(buffer, letter, row[1], b'\n');
+        return refused_event(row, buffer, at);
     }
     if kind == 3 {
-        let letter = put_letter(buffer, at, b'T');
-        let number = put(buffer, letter, row[1], b' ');
-        return put(buffer, number, row[2], b'\n');
+        return refused_table(row, buffer, at);
     }
-    let id = put(buffer, at, row[1], b' ');
-    let lower = put(buffer, id, row[2], b' ');
-    let upper = put(buffer, lower, row[3], b' ');
-    let lowerbound = put(buffer, upper, row[4], b' ');
-    put(buffer, lowerbound, row[5], b'\n')
+    closing(row, buffer, at)
 }
