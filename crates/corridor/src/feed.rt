@@ -80,7 +80,12 @@ impl Session {
                             let near = self.near;
                             let q = p.quote;
                             let place = p.place;
-                            let m = holds::shift::quoted_line(near, self.left, q, self.lines[place]);
+                            let m = holds::shift::quoted_line(
+                                near,
+                                self.left,
+                                q,
+                                self.lines[place],
+                            );
                             self.lines[place] = m;
                             let wait = self.hold;
                             let h = m.holds;
