@@ -24,7 +24,9 @@ use Rattle.corridor.specs.declared.Session.{Session}
 use Rattle.corridor.specs.declared.Served.{Served}
 use Rattle.corridor.specs.declared.Reply.{Reply}
 use Rattle.corridor.specs.View.{view, put, Ranged, Valid}
+use Rattle.corridor.specs.Applied.{moved-on, lines-after, Applies}
 use Rattle.corridor.specs.Reply.{no-shift, served-as, refused-with, reply-of}
+use Rattle.corridor.proofs.Views.{view-length}
 use Rattle.corridor.proofs.Rows.{room-at}
 use Rattle.corridor.proofs.Shifting.{after-length}
 use Rattle.corridor.proofs.DueServed.{ranged-served}
@@ -49,10 +51,6 @@ pub accepted : (s : Session) (e : Event) → verdict (view s) e ≡ EventAnswer.
 unfolding answer reply-of next
 accepted s e h = rw h
 
--- the session r with other lines and another clock
-abbrev pub moved-on : Session → List Line → Seconds → Session
-moved-on r ls t = record { lines = ls; count = r .count; clock = t; end = r .end; hold = r .hold; left = r .left; near = r .near }
-
 -- what is handed out: the shift lines of r, and the session z with the time t
 abbrev pub handed : Served → Session → Seconds → Reply
 handed r z t = record { answer = EventAnswer.Accepted; shifts = r .shifts; made = r .made; session = moved-on z (z .lines) t }
@@ -62,10 +60,10 @@ put-set : (s : Session) (x : State) (p : ℕ) (m : Line) (t : Seconds) → p < l
     → moved-on (put s x) (set (put s x .lines) p m) t ≡ put s (with-lines x (set (x .lines) p m) (x .left) t)
 put-set s x p m t h = rw (set-append-left (x .lines) (drop (length (x .lines)) (s .lines)) p m h, length-set (x .lines) p m)
 
--- the lines of a session after what an event changes
-abbrev pub lines-after : Session → Change → List Line
-lines-after r Change.Nothing = r .lines
-lines-after r (Change.Quote p) = set (r .lines) (p .place) (quoted-line (r .near) (r .left) (p .quote) (getD (r .lines) (p .place) blank))
+-- the prices of a quote that is read
+pub quote-in : (b : List ℕ) (q : Quote) → read b ≡ Quoted q → PriceIn (q .bid) × PriceIn (q .ask)
+unfolding EventIn
+quote-in b q said = subst EventIn said (read-in b)
 
 -- what a quote asks of its line, in the session served
 pub quote-asks : (s : Session) (t : Seconds) (q : Quote) (p : ℕ) (r : Served) → Valid s → Named (q .id) (view s .lines) p → PriceIn (q .bid) × PriceIn (q .ask)
@@ -78,6 +76,17 @@ quote-asks s t q p r v named i er = rw er (go (ranged-served s t v))
     go : Ranged (put s x) → Pressed (x .near) (with-book (getD (put s x .lines) p blank) (q .bid) (q .ask))
     go w = room-quotes (x .near) (q .bid) (q .ask) (w .sane .near .most) (i .0) (i .1)
         (room-at p w (omega (arith, named-below (q .id) (view s .lines) p named, after-length (serve (s .left) t (view s)) (view s))))
+
+pub applies : (s : Session) (b : List ℕ) (v : Taken) (r : Served) → Valid s → Takes (view s) (read b) v → r ≡ served-as s (serve (s .left) (v .time) (view s))
+    → Applies (r .session) (v .change)
+applies s b v r w o er = go (v .change) (o .changes)
+  where
+    go : (c : Change) → Changes (view s) (read b) c → Applies (r .session) c
+    go Change.Nothing said = tt
+    go (Change.Quote p) (said, named) = (
+      omega (arith, named-below (p .quote .id) (view s .lines) (p .place) named, view-length w, w .few),
+      quote-asks s (v .time) (p .quote) (p .place) r w named (quote-in b (p .quote) said) er,
+    )
 
 quote-changed : (s : Session) (x : State) (q : Quote) (p : ℕ) → Named (q .id) (x .lines) p
     → moved-on (put s x) (set (put s x .lines) p (quoted-line (x .near) (x .left) q (getD (put s x .lines) p blank))) (q .time) ≡ put s (applied (Quoted q) x)
@@ -112,11 +121,6 @@ event-taken s e v r o er c ec z ez =
   where
     cs : List ShiftLine
     cs = serve (s .left) (time e) (view s)
-
--- ---- the prices of a quote that is read
-pub quote-in : (b : List ℕ) (q : Quote) → read b ≡ Quoted q → PriceIn (q .bid) × PriceIn (q .ask)
-unfolding EventIn
-quote-in b q said = subst EventIn said (read-in b)
 
 -- ---- an event changes no number of lines
 quoted-length : (near : Millionths) (left : ℕ) (q : Quote) (ls : List Line) → length (quoted near left q ls) ≡ length ls

@@ -36,7 +36,8 @@ use Rattle.corridor.proofs.Gathered.{ids-after, ids-applied}
 use Rattle.corridor.proofs.Named.{Named, named-below, named-quoted}
 use Rattle.corridor.proofs.Saying.{Changes, Takes}
 use Rattle.corridor.proofs.Quiet.{Quiet, quiet-start, quiet-serves, quiet-tick, quiet-quoted}
-use Rattle.corridor.proofs.Events.{reply, refused-is, accepted, moved-on, handed, lines-after, changes-after, event-taken}
+use Rattle.corridor.specs.Applied.{moved-on, lines-after}
+use Rattle.corridor.proofs.Events.{reply, refused-is, accepted, handed, changes-after, event-taken}
 use Rattle.corridor.proofs.Theorems.{valid-event}
 use Rattle.events.proofs.Cutting.{Cut, fewer}
 use Rattle.corridor.proofs.Feeding.{Ahead, ahead-start, ahead-turn, ahead-long}

@@ -6,11 +6,13 @@ ghost use Rattle.method.specs.Opening.{ids};
 ghost use Rattle.method.specs.Event.{read};
 ghost use Rattle.method.specs.Search.{answer};
 ghost use Rattle.corridor.specs.View.{view, Ranged, Valid};
+ghost use Rattle.corridor.specs.Applied.{applied-to, Applies};
 ghost use Rattle.corridor.specs.Reply.{reply-of};
 use crate::Reply;
 use crate::Session;
 use method::EventAnswer;
 use verdict::Change;
+use verdict::Taken;
 use verdict::Verdict;
 
 impl Session {
@@ -25,6 +27,29 @@ impl Session {
             got[i] = self.lines[i].terms.id;
         }
         got
+    }
+
+    // A quote is put on its line, a tick changes none, and the clock is set.
+    fn applied(mut self, v: Taken) -> Session
+        requires { ⌜ Applies self (v .change) ⌝ }
+        ensures { λ r. ⌜ r ≡ applied-to self v ⌝ }
+    {
+        let t = v.time;
+        self.clock = t;
+        let change = v.change;
+        match change {
+            Change::Nothing => {
+                return self;
+            }
+            Change::Quote(p) => {
+                let near = self.near;
+                let q = p.quote;
+                let place = p.place;
+                let m = holds::shift::quoted_line(near, self.left, q, self.lines[place]);
+                self.lines[place] = m;
+                return self;
+            }
+        }
     }
 
     // Holds that are due by an event's time are served before it is applied, so a quote meets the lines as the shifts leave them. A refused
@@ -52,23 +77,11 @@ impl Session {
                 let r = self.served(t);
                 let shifts = r.shifts;
                 self = r.session;
-                let change = v.change;
-                match change {
-                    Change::Nothing => {}
-                    Change::Quote(p) => {
-                        let near = self.near;
-                        let q = p.quote;
-                        let place = p.place;
-                        let m = holds::shift::quoted_line(near, self.left, q, self.lines[place]);
-                        self.lines[place] = m;
-                    }
-                }
-                self.clock = t;
                 return Reply {
                     answer: EventAnswer::Accepted,
                     shifts: shifts,
                     made: r.made,
-                    session: self,
+                    session: self.applied(v),
                 };
             }
         }

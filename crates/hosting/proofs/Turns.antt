@@ -21,7 +21,8 @@ use Rattle.corridor.proofs.Views.{view-length}
 use Rattle.corridor.proofs.DueServed.{idle}
 use Rattle.corridor.proofs.Named.{named-below}
 use Rattle.corridor.proofs.Saying.{Changes, Takes}
-use Rattle.corridor.proofs.Events.{moved-on, lines-after, handed, quote-asks, event-taken, quote-in}
+use Rattle.corridor.specs.Applied.{moved-on, lines-after}
+use Rattle.corridor.proofs.Events.{handed, quote-asks, event-taken, quote-in}
 use Rattle.hosting.specs.Names.{Seconds, Session}
 
 -- before the quiet second nothing is due
