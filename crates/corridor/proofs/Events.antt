@@ -77,15 +77,15 @@ quote-asks s t q p r v named i er = rw er (go (ranged-served s t v))
     go w = room-quotes (x .near) (q .bid) (q .ask) (w .sane .near .most) (i .0) (i .1)
         (room-at p w (omega (arith, named-below (q .id) (view s .lines) p named, after-length (serve (s .left) t (view s)) (view s))))
 
-pub applies : (s : Session) (b : List ℕ) (v : Taken) (r : Served) → Valid s → Takes (view s) (read b) v → r ≡ served-as s (serve (s .left) (v .time) (view s))
-    → Applies (r .session) (v .change)
-applies s b v r w o er = go (v .change) (o .changes)
+pub applies : (s : Session) (b : List ℕ) (v : Taken) (t : Seconds) (r : Served) → Valid s → Takes (view s) (read b) v
+    → r ≡ served-as s (serve (s .left) t (view s)) → Applies (r .session) (v .change)
+applies s b v t r w o er = go (v .change) (o .changes)
   where
     go : (c : Change) → Changes (view s) (read b) c → Applies (r .session) c
     go Change.Nothing said = tt
     go (Change.Quote p) (said, named) = (
       omega (arith, named-below (p .quote .id) (view s .lines) (p .place) named, view-length w, w .few),
-      quote-asks s (v .time) (p .quote) (p .place) r w named (quote-in b (p .quote) said) er,
+      quote-asks s t (p .quote) (p .place) r w named (quote-in b (p .quote) said) er,
     )
 
 quote-changed : (s : Session) (x : State) (q : Quote) (p : ℕ) → Named (q .id) (x .lines) p

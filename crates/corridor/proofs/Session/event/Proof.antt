@@ -75,7 +75,7 @@ applied-requires : tie.Need-applied-requires
 applied-requires c κs =
     let at = c .before .before in
     let s = from-taken (at .before) in
-    applies (s .args .self) (now (s .args .bytes)) (taken (at .before)) (at .served .result) (s .pre) (takes (at .before)) (at .served .ensures)
+    applies (s .args .self) (now (s .args .bytes)) (taken (at .before)) _ (at .served .result) (s .pre) (takes (at .before)) (at .served .ensures)
 
 -- ---- the answer to an event that is taken
 returns-2 : tie.Need-returns-2
