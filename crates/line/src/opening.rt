@@ -5,9 +5,7 @@ ghost use Prim.Native.Nat.{_≤_};
 ghost use lib.IntN.{pos, natAbs};
 ghost use Rattle.numbers.specs.Ranges.{Within, Between, Span};
 ghost use Rattle.method.specs.Growth.{most-exponent};
-ghost use mathlib.Core.Bool.{_||_};
-ghost use lib.Signed.{leZ};
-ghost use Rattle.method.specs.Opening.{permits-negative, rates-good, fields-good, normal-price, half-width, market-of, half-move, terms-of, corridor-half, corridor, inside-bounds, fresh-line, opened-with};
+ghost use Rattle.method.specs.Opening.{normal-price, half-width, market-of, half-move, terms-of, corridor-half, corridor, inside-bounds, fresh-line, opened-with};
 ghost use Rattle.method.specs.Ranges.{ContractIn};
 ghost use Rattle.bounds.specs.Asks.{Drawn};
 ghost use Rattle.line.specs.Asks.{Spanned};
@@ -28,66 +26,6 @@ use method::Terms;
 use numbers::Billionths;
 use numbers::Millionths;
 use numbers::Steps;
-
-// Rates in their range, and not falling.
-fn rates_good(c: Contract) -> bool
-    ensures { λ r. ⌜ r ≡ rates-good c ⌝ }
-{
-    if !numbers::in_range(1, 1000000, c.rate1.0) {
-        return false;
-    }
-    if !numbers::in_range(1, 1000000, c.rate2.0) {
-        return false;
-    }
-    if c.rate2.0 < c.rate1.0 {
-        return false;
-    }
-    if !numbers::in_range(1, 1000000, c.rate3.0) {
-        return false;
-    }
-    c.rate2.0 <= c.rate3.0
-}
-
-// Every field in its range (refusal 5).
-pub fn fields_good(c: Contract) -> bool
-    ensures { λ r. ⌜ r ≡ fields-good c ⌝ }
-{
-    let price = c.price;
-    let spot = c.spot;
-    let least = c.least;
-    if !numbers::between(Steps(-100000000), Steps(100000000), price) {
-        return false;
-    }
-    if !positive(c.flags, price) {
-        return false;
-    }
-    if !numbers::between(Steps(-100000000), Steps(100000000), spot) {
-        return false;
-    }
-    if !numbers::between(Steps(1), Steps(100000000), least) {
-        return false;
-    }
-    if !rates_good(c) {
-        return false;
-    }
-    if 1000000 < c.width.0 {
-        return false;
-    }
-    if 3650 < c.days {
-        return false;
-    }
-    wire::reserved_zero(c.flags)
-}
-
-// At least 1, where negative prices are not permitted.
-fn positive(flags: u32, price: Steps) -> bool
-    ensures { λ r. ⌜ r ≡ (permits-negative flags || leZ (pos 1) (price .0)) ⌝ }
-{
-    if wire::bit_0(flags) {
-        return true;
-    }
-    1 <= price.0
-}
 
 fn magnitude(z: Steps) -> Steps
     requires { ⌜ Within 100_000_000 (z .0) ⌝ }

@@ -1,18 +1,16 @@
--- The loops over a table's keys: what holds at their head. And a contract, field by field. Assumes nothing.
+-- The loop that reads a table's keys: what holds at its head. And a contract, field by field. Assumes nothing.
 use mathlib.Core.Path.{_≡_, refl, sym, ap, _∙_}
-use mathlib.Core.Bool.{true, false}
 use mathlib.Core.List.{List, [], _∷_, _++_}
-use mathlib.Core.Option.{none, some}
-use Prim.Native.Nat.{ℕ, zero, suc, _+_, _*_, _≤_, _<_}
+use Prim.Native.Nat.{ℕ, zero, suc, _+_, _*_, _<_}
 use native.Mathlib.Numerals.{add-one}
 use native.Mathlib.Omega.{arith}
 use lib.IntN.{ℤ}
-use lib.ListN.{length, getD, set, take, drop}
+use lib.ListN.{length, set}
 use Rattle.numbers.specs.Arrays.{padded}
-use Rattle.numbers.proofs.Arrays.{padded-set, passing, all-passed}
-use Rattle.method.specs.Table.{key-at, keys-at, key-good, bad-key}
+use Rattle.numbers.proofs.Arrays.{padded-set}
+use Rattle.method.specs.Table.{key-at, keys-at}
 use Rattle.records.specs.Names.{Key, Contract}
-use Rattle.records.specs.Keys.{no-key, line-or-zero}
+use Rattle.records.specs.Keys.{no-key}
 
 -- ---- the keys are read one after another
 pub keys-length : (b : List ℕ) (at n : ℕ) → length (keys-at b at n) ≡ n
@@ -35,29 +33,6 @@ keys-read b i keys k e h q =
     (ap (λ (j : ℕ). set (padded 16 no-key (keys-at b 40 i)) j (key-at b (40 + 8 * i))) (sym size)
     ∙ padded-set 16 no-key (keys-at b 40 i) (key-at b (40 + 8 * i)) (omega arith)
     ∙ ap (padded 16 no-key) (keys-last b 40 i))
-
--- ---- the keys are tested one after another
-abbrev pub Tested : ℕ → List Key → ℕ → ℕ → ℕ → Type 0
-Tested n keys last line i = bad-key line last (drop i (take n keys)) ≡ bad-key 1 0 (take n keys)
-
-module _ (n : ℕ) (keys : List Key) (last line i : ℕ) (t : Tested n keys last line i) (h : n ≤ length keys) where
-  pub tested-bad : i < n → key-good last (getD keys i no-key) ≡ false → line ≡ line-or-zero (bad-key 1 0 (take n keys))
-  tested-bad g e = ap line-or-zero (sym found ∙ t)
-    where
-      found : bad-key line last (drop i (take n keys)) ≡ some line
-      found = unfold bad-key in rw (passing i n keys no-key g h, e)
-
-  pub tested-turn : i < n → key-good last (getD keys i no-key) ≡ true → Tested n keys (getD keys i no-key .days) (line + 1) (i + 1)
-  tested-turn g e = rw (add-one line, add-one i) (sym passed ∙ t)
-    where
-      passed : bad-key line last (drop i (take n keys)) ≡ bad-key (suc line) (getD keys i no-key .days) (drop (suc i) (take n keys))
-      passed = unfold bad-key in rw (passing i n keys no-key g h, e)
-
-  pub tested-all : i ≡ n → 0 ≡ line-or-zero (bad-key 1 0 (take n keys))
-  tested-all e = ap line-or-zero (sym ended ∙ t)
-    where
-      ended : bad-key line last (drop i (take n keys)) ≡ none
-      ended = unfold bad-key in rw (e, all-passed n keys h)
 
 -- ---- a contract, field by field
 abbrev fields : ℤ → ℤ → ℤ → ℕ → ℕ → ℕ → ℕ → ℕ → ℕ → ℕ → Contract

@@ -1,11 +1,11 @@
-// The records of a morning table: header, keys and contracts out of its bytes, and the tests of header and keys.
+// The records of a morning table: header, keys and contracts out of its bytes. What they must keep to is tested in `ranges`.
 
 ghost use mathlib.Core.Path.{_≡_};
 ghost use Prim.Native.Nat.{_+_, _*_, _≤_};
-ghost use lib.ListN.{length, take};
+ghost use lib.ListN.{length};
 ghost use Rattle.numbers.specs.Arrays.{padded};
-ghost use Rattle.method.specs.Table.{header-of, key-at, contract-at, keys-at, bad-key, header-good, laid-out, key-good, table-length};
-ghost use Rattle.records.specs.Keys.{no-key, line-or-zero};
+ghost use Rattle.method.specs.Table.{header-of, key-at, contract-at, keys-at};
+ghost use Rattle.records.specs.Keys.{no-key};
 use method::Contract;
 use method::Header;
 use method::Key;
@@ -67,66 +67,6 @@ pub fn contract(bytes: &[u8], at: usize) -> Contract
     }
 }
 
-// ---- their tests
-
-// A count, a time or a share out of range (refusal 3).
-pub fn header_good(h: Header) -> bool
-    ensures { λ r. ⌜ r ≡ header-good h ⌝ }
-{
-    if !numbers::in_range(1, 32, h.contracts) {
-        return false;
-    }
-    if !numbers::in_range(1, 16, h.keys) {
-        return false;
-    }
-    if !numbers::in_range(1, 172800, h.end.0) {
-        return false;
-    }
-    if !numbers::in_range(1, 3600, h.hold.0) {
-        return false;
-    }
-    if 16 < h.most {
-        return false;
-    }
-    if !numbers::in_range(1, 500000, h.near.0) {
-        return false;
-    }
-    numbers::in_range(1, 1000000, h.shift.0)
-}
-
-// Where the table ends as the counts say. The sums are of 64 bits, and fit whatever the counts are.
-pub fn table_length(h: Header) -> usize
-    ensures { λ r. ⌜ r ≡ table-length h ⌝ }
-{
-    40 + 8 * (h.keys as usize) + 40 * (h.contracts as usize)
-}
-
-// Offsets and length as the counts say (the rest of refusal 1).
-pub fn laid_out(h: Header, size: usize) -> bool
-    ensures { λ r. ⌜ r ≡ laid-out h size ⌝ }
-{
-    if h.keysat != 40 {
-        return false;
-    }
-    if (h.contractsat as usize) != 40 + 8 * (h.keys as usize) {
-        return false;
-    }
-    size == table_length(h)
-}
-
-// A key in its range, and after the one before it (refusal 4).
-fn key_good(before: u32, k: Key) -> bool
-    ensures { λ r. ⌜ r ≡ key-good before k ⌝ }
-{
-    if !numbers::in_range(1, 3650, k.days) {
-        return false;
-    }
-    if k.days <= before {
-        return false;
-    }
-    k.rate.0 <= 1000000
-}
-
 // ---- the keys
 
 pub fn keys(bytes: &[u8], n: usize) -> [Key; 16]
@@ -140,24 +80,4 @@ pub fn keys(bytes: &[u8], n: usize) -> [Key; 16]
         i = i + 1;
     }
     keys
-}
-
-// The line of the first bad key, from 1, or 0 where there is none.
-pub fn first_bad_key(keys: [Key; 16], n: usize) -> u32
-    requires { ⌜ n ≤ 16 ⌝ }
-    ensures { λ r. ⌜ r ≡ line-or-zero (bad-key 1 0 (take n keys)) ⌝ }
-{
-    let mut last: u32 = 0;
-    let mut line: u32 = 1;
-    let mut i: usize = 0;
-    while i < n {
-        let k = keys[i];
-        if !key_good(last, k) {
-            return line;
-        }
-        last = k.days;
-        line = line + 1;
-        i = i + 1;
-    }
-    0
 }

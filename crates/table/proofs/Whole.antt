@@ -12,8 +12,9 @@ use Rattle.numbers.proofs.Arrays.{padded-take}
 use Rattle.method.specs.Table.{header-of, keys-at, contracts-start, contracts-at, header-good, laid-out, key-good, bad-key, refused, open-lines, if-keys-good, open-records, opening}
 use Rattle.method.proofs.Decided.{laid-in}
 use Rattle.method.proofs.Table.{header-in, keys-in}
-use Rattle.records.specs.Keys.{no-key, line-or-zero}
+use Rattle.records.specs.Keys.{no-key}
 use Rattle.records.proofs.Reading.{keys-length}
+use Rattle.ranges.specs.BadKey.{line-or-zero}
 use Rattle.table.specs.Names.{Header, Key, TableReason}
 use Rattle.table.specs.Asks.{Lined}
 

@@ -94,7 +94,7 @@ fn open_line(
     requires { ⌜ Ready shift keys n × (count ≤ 32) ⌝ }
     ensures { λ r. ⌜ r ≡ open-line shift (take n keys) (take count lines) c ⌝ }
 {
-    let good_fields = line::opening::fields_good(c);
+    let good_fields = ranges::fields_good(c);
     let good_id = id_good(lines, count, c.id);
     if !good_fields {
         return LineAnswer::Refused(TableReason::Field);
@@ -185,7 +185,7 @@ pub fn ends_at(bytes: &[u8]) -> usize
     ensures { λ r. ⌜ r ≡ table-length (header-of (now (bytes .entry))) ⌝ }
 {
     let h = records::header(bytes);
-    records::table_length(h)
+    ranges::table_length(h)
 }
 
 // Opens a morning table. Any bytes of any length get an answer, and nothing is worked out from a count before it is checked.
@@ -200,15 +200,15 @@ pub fn open(bytes: &[u8]) -> Opened
     if h.edition != 1 {
         return refused(TableReason::Edition, 0);
     }
-    if !records::header_good(h) {
+    if !ranges::header_good(h) {
         return refused(TableReason::Header, 0);
     }
-    if !records::laid_out(h, size) {
+    if !ranges::laid_out(h, size) {
         return refused(TableReason::Length, 0);
     }
     let n = h.keys as usize;
     let ks = records::keys(bytes, n);
-    let bad = records::first_bad_key(ks, n);
+    let bad = ranges::first_bad_key(ks, n);
     if bad != 0 {
         return refused(TableReason::Key, bad);
     }

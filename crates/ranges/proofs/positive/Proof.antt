@@ -1,8 +1,8 @@
--- `line::opening::positive` meets its contract. Assumes nothing.
+-- `ranges::positive` meets its contract. Assumes nothing.
 use borrow.Author.Needs.{needs}
 use mathlib.Core.Path.{sym, _∙_}
-use Rattle.line.proofs.opening.positive.Statement.{statement}
-use Rattle.line.proofs.opening.positive.Tie as tie
+use Rattle.ranges.proofs.positive.Statement.{statement}
+use Rattle.ranges.proofs.positive.Tie as tie
 
 bit-0-requires : tie.Need-bit-0-requires
 bit-0-requires c κs = search needs

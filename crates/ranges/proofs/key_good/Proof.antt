@@ -1,10 +1,10 @@
--- `records::key_good` meets its contract. Assumes nothing.
+-- `ranges::key_good` meets its contract. Assumes nothing.
 use borrow.Author.Needs.{needs}
 use borrow.Author.Tests.{lt-ltb, le-ltb}
 use Rattle.numbers.proofs.Tests.{failed, held}
 use Rattle.method.specs.Table.{key-good}
-use Rattle.records.proofs.key_good.Statement.{statement}
-use Rattle.records.proofs.key_good.Tie as tie
+use Rattle.ranges.proofs.key_good.Statement.{statement}
+use Rattle.ranges.proofs.key_good.Tie as tie
 
 in-range-requires : tie.Need-in-range-requires
 in-range-requires c κs = search needs

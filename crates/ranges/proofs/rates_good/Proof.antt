@@ -1,10 +1,10 @@
--- `line::opening::rates_good` meets its contract. Assumes nothing.
+-- `ranges::rates_good` meets its contract. Assumes nothing.
 use borrow.Author.Needs.{needs}
 use borrow.Author.Tests.{le-leb, lt-leb}
 use Rattle.numbers.proofs.Tests.{failed, held}
 use Rattle.method.specs.Opening.{rates-good}
-use Rattle.line.proofs.opening.rates_good.Statement.{statement}
-use Rattle.line.proofs.opening.rates_good.Tie as tie
+use Rattle.ranges.proofs.rates_good.Statement.{statement}
+use Rattle.ranges.proofs.rates_good.Tie as tie
 
 in-range-requires : tie.Need-in-range-requires
 in-range-requires c κs = search needs

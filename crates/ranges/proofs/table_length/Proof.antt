@@ -1,8 +1,8 @@
--- `records::table_length` meets its contract. Assumes nothing.
+-- `ranges::table_length` meets its contract. Assumes nothing.
 use borrow.Author.Needs.{needs}
 use native.Mathlib.Omega.{arith}
-use Rattle.records.proofs.table_length.Statement.{statement}
-use Rattle.records.proofs.table_length.Tie as tie
+use Rattle.ranges.proofs.table_length.Statement.{statement}
+use Rattle.ranges.proofs.table_length.Tie as tie
 
 cast-result : tie.Need-cast-result
 cast-result c = search needs

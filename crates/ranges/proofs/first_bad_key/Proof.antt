@@ -1,13 +1,13 @@
--- `records::first_bad_key` meets its contract. Assumes nothing.
+-- `ranges::first_bad_key` meets its contract. Assumes nothing.
 use mathlib.Core.Path.{_≡_, refl}
 use Prim.Native.Nat.{_+_, _-_, _≤_}
 use native.Mathlib.Omega.{arith}
 use lib.ListN.{length}
 use Rattle.numbers.proofs.Arrays.{full}
 use Rattle.numbers.proofs.Tests.{failed, held}
-use Rattle.records.proofs.Reading.{Tested, tested-bad, tested-turn, tested-all}
-use Rattle.records.proofs.first_bad_key.Statement.{statement}
-use Rattle.records.proofs.first_bad_key.Tie as tie
+use Rattle.ranges.proofs.Testing.{Tested, tested-bad, tested-turn, tested-all}
+use Rattle.ranges.proofs.first_bad_key.Statement.{statement}
+use Rattle.ranges.proofs.first_bad_key.Tie as tie
 
 abbrev Inv-loop : tie.InvT-loop
 Inv-loop n keys last₀ line₀ i₀ last line i = (i ≤ n) × (line ≡ i + 1) × Tested n keys last line i
@@ -32,7 +32,7 @@ returns c =
     let s = c .before .before .before .before .before in
     let at = c .before .before .before .before .loop in
     let len : length (s .args .t1) ≡ 16 = search (full, s .good) in
-    tested-bad (s .args .n) (s .args .t1) (at .last) (at .line) (at .i) (at .inv .2) (omega arith) (omega arith) (failed (c .before .key-good .ensures) (c .if1 .taken))
+    tested-bad (s .args .n) (s .args .t1) (at .last) (at .line) (at .i) (at .inv .2) (omega arith) _ (omega arith) (failed (c .before .key-good .ensures) (c .if1 .taken))
 
 add-line : tie.Need-add-line Inv-loop μ-loop
 add-line c = omega arith
@@ -48,7 +48,7 @@ loop-again c =
     let s = c .before .before .before .before .before in
     let at = c .before .before .before .before .loop in
     let len : length (s .args .t1) ≡ 16 = search (full, s .good) in
-    (omega arith, omega arith, tested-turn (s .args .n) (s .args .t1) (at .last) (at .line) (at .i) (at .inv .2) (omega arith) (omega arith) (held (c .before .key-good .ensures) (c .if1 .left)))
+    (omega arith, omega arith, tested-turn (s .args .n) (s .args .t1) (at .last) (at .line) (at .i) (at .inv .2) (omega arith) _ (omega arith) (held (c .before .key-good .ensures) (c .if1 .left)))
 
 returns-2 : tie.Need-returns-2 Inv-loop μ-loop
 returns-2 c =

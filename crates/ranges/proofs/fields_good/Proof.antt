@@ -1,10 +1,10 @@
--- `line::opening::fields_good` meets its contract. Assumes nothing.
+-- `ranges::fields_good` meets its contract. Assumes nothing.
 use borrow.Author.Needs.{needs}
 use borrow.Author.Tests.{le-leb, lt-leb}
 use Rattle.numbers.proofs.Tests.{failed, held}
 use Rattle.method.specs.Opening.{fields-good}
-use Rattle.line.proofs.opening.fields_good.Statement.{statement}
-use Rattle.line.proofs.opening.fields_good.Tie as tie
+use Rattle.ranges.proofs.fields_good.Statement.{statement}
+use Rattle.ranges.proofs.fields_good.Tie as tie
 
 between-requires : tie.Need-between-requires
 between-requires c κs = search needs

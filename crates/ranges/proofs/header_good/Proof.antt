@@ -1,10 +1,10 @@
--- `records::header_good` meets its contract. Assumes nothing.
+-- `ranges::header_good` meets its contract. Assumes nothing.
 use borrow.Author.Needs.{needs}
 use borrow.Author.Tests.{le-leb, lt-leb}
 use Rattle.numbers.proofs.Tests.{failed, held}
 use Rattle.method.specs.Table.{header-good}
-use Rattle.records.proofs.header_good.Statement.{statement}
-use Rattle.records.proofs.header_good.Tie as tie
+use Rattle.ranges.proofs.header_good.Statement.{statement}
+use Rattle.ranges.proofs.header_good.Tie as tie
 
 in-range-requires : tie.Need-in-range-requires
 in-range-requires c κs = search needs

@@ -1,9 +1,9 @@
--- `records::laid_out` meets its contract. Assumes nothing.
+-- `ranges::laid_out` meets its contract. Assumes nothing.
 use borrow.Author.Needs.{needs}
 use borrow.Author.Tests.{eq-eqb, ne-eqb}
 use Rattle.method.specs.Table.{laid-out}
-use Rattle.records.proofs.laid_out.Statement.{statement}
-use Rattle.records.proofs.laid_out.Tie as tie
+use Rattle.ranges.proofs.laid_out.Statement.{statement}
+use Rattle.ranges.proofs.laid_out.Tie as tie
 
 returns : tie.Need-returns
 unfolding laid-out

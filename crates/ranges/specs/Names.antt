@@ -1,0 +1,2 @@
+-- The data of `method` that this crate names.
+pub use Rattle.method.specs.declared.Key.{Key}
