@@ -20,7 +20,7 @@ pub enum Sought {
 }
 
 impl Session {
-    // The line that has the id. The session may be copied on its way here: no question is asked once an event.
+    // The line that has the id. No event comes this way, so a session that is copied here slows none.
     fn found(self, id: u32) -> Sought
         requires { ⌜ Valid self ⌝ }
         ensures { λ r. ⌜ r ≡ sought id (view self) ⌝ }
