@@ -11,8 +11,9 @@ use Rattle.corridor.specs.View.{Valid}
 use Rattle.corridor.specs.Feeding.{left-by}
 use Rattle.corridor.proofs.Views.{put-view}
 use Rattle.corridor.proofs.Chunks.{left-on, valid-left}
-use Rattle.session.specs.declared.events.Told.{Told}
-use Rattle.session.specs.Chunks.{answered, Reached}
+use Rattle.chunks.specs.declared.Told.{Told}
+use Rattle.chunks.specs.Answered.{answered}
+use Rattle.session.specs.Chunks.{Reached}
 
 pub record Going (first s : Session) : Type 0 where
   pub bytes : List ℕ

@@ -3,12 +3,8 @@
 ghost use mathlib.Core.Path.{_≡_};
 ghost use Prim.Native.Nat.{_≤_};
 ghost use lib.ListN.{length};
-ghost use Rattle.rows.specs.Buffer.{written};
 ghost use Rattle.corridor.specs.View.{Valid};
-ghost use Rattle.corridor.specs.Feeding.{room, told};
-ghost use Rattle.corridor.specs.Closing.{closing-numbers};
-ghost use Rattle.session.specs.Chunks.{answered, Reached};
-use corridor::RowsAnswer;
+ghost use Rattle.session.specs.Chunks.{Reached};
 use corridor::Session;
 
 // A buffer for 1,024 events: whole ones, so only the last chunk of an input can end in a cut event.
@@ -25,37 +21,10 @@ fn row_room() -> [i64; 6240]
     [0; 6240]
 }
 
-// How many numbers the answers to a chunk have, and the session that it leaves.
-struct Told {
-    count: usize,
-    session: Session,
-}
-
 // What is said so far: the session, and how much text waits in its buffer.
 struct Said {
     session: Session,
     waiting: usize,
-}
-
-// A chunk's answers, for which the room is there.
-fn answered(s: Session, chunk: &[u8], numbers: &mut [i64]) -> Told
-    requires { ⌜ Valid s × (room (length (now chunk)) ≤ length (now numbers)) ⌝ }
-    ensures { λ r. ⌜ r ≡ answered s (now (chunk .entry)) ⌝ }
-    ensures { λ _. ⌜ now (numbers .exit) ≡ written (now (numbers .entry)) 0 (told s (now (chunk .entry))) ⌝ }
-{
-    let r = s.feed(chunk, numbers);
-    let session = r.session;
-    let answer = r.answer;
-    match answer {
-        RowsAnswer::NoRoom(_) => Told {
-            count: 0,
-            session: session,
-        },
-        RowsAnswer::Written(count) => Told {
-            count: count,
-            session: session,
-        },
-    }
 }
 
 // A proved loop has to end, and nothing says that the input does: the loop counts its turns down from a number that no run uses up.
@@ -69,7 +38,7 @@ fn answer_events(first: Session, chunk: &mut [u8], numbers: &mut [i64], buffer: 
     let mut turns = u64::MAX;
     while turns > 0 {
         let size = io::read_full(0, chunk);
-        let a = answered(s, &chunk[..size], numbers);
+        let a = chunks::answered(s, &chunk[..size], numbers);
         let count = a.count;
         s = a.session;
         waiting = crate::printing::rows(&numbers[..count], buffer, waiting);
@@ -84,19 +53,6 @@ fn answer_events(first: Session, chunk: &mut [u8], numbers: &mut [i64], buffer: 
     }
 }
 
-// The closing rows, for which the room is there; the answer is how many numbers they have.
-fn closed(s: Session, numbers: &mut [i64]) -> usize
-    requires { ⌜ Valid s × (192 ≤ length (now numbers)) ⌝ }
-    ensures { λ r. ⌜ r ≡ length (closing-numbers s) ⌝ }
-    ensures { λ _. ⌜ now (numbers .exit) ≡ written (now (numbers .entry)) 0 (closing-numbers s) ⌝ }
-{
-    let answer = s.close(numbers);
-    match answer {
-        RowsAnswer::NoRoom(_) => 0,
-        RowsAnswer::Written(count) => count,
-    }
-}
-
 // Answers all events, and then prints the closing lines.
 pub(crate) fn answer_all(first: Session)
     requires { ⌜ Valid first ⌝ }
@@ -106,7 +62,7 @@ pub(crate) fn answer_all(first: Session)
     let mut buffer = io::large_buffer();
     let said = answer_events(first, &mut chunk, &mut numbers, &mut buffer);
     let s = said.session;
-    let count = closed(s, &mut numbers);
+    let count = chunks::closed(s, &mut numbers);
     let end = crate::printing::rows(&numbers[..count], &mut buffer, said.waiting);
     io::write_all(1, &buffer[..end]);
 }

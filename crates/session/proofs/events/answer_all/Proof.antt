@@ -2,7 +2,7 @@
 use borrow.Author.Needs.{needs}
 use native.Mathlib.Omega.{arith}
 use Rattle.session.proofs.Taken.{taken}
-use Rattle.session.proofs.Answering.{closing-few}
+use Rattle.chunks.proofs.Answering.{closing-few}
 use Rattle.session.proofs.Going.{reached-valid}
 use Rattle.session.proofs.events.answer_all.Statement.{statement}
 use Rattle.session.proofs.events.answer_all.Tie as tie

@@ -5,7 +5,7 @@ use Prim.Native.Nat.{_≤_}
 use native.Mathlib.Omega.{arith}
 use lib.ListN.{length, take}
 use Rattle.corridor.specs.View.{Valid}
-use Rattle.session.proofs.Answering.{count-fits}
+use Rattle.chunks.proofs.Answering.{count-fits}
 use Rattle.session.proofs.Taken.{taken}
 use Rattle.session.proofs.Going.{Going, nothing-read, reached, reached-valid, reached-more, going-on}
 use Rattle.session.proofs.events.answer_events.Statement.{statement}

@@ -1,11 +1,11 @@
--- `session::events::answered` meets its contract. Assumes nothing.
+-- `chunks::answered` meets its contract. Assumes nothing.
 use borrow.Author.Needs.{needs}
 use mathlib.Core.Path.{_∙_}
 use denote.Ref.{now}
 use Rattle.corridor.proofs.Chunks.{fed-into-is}
-use Rattle.session.proofs.Answering.{has-room, answered-is}
-use Rattle.session.proofs.events.answered.Statement.{statement}
-use Rattle.session.proofs.events.answered.Tie as tie
+use Rattle.chunks.proofs.Answering.{has-room, answered-is}
+use Rattle.chunks.proofs.answered.Statement.{statement}
+use Rattle.chunks.proofs.answered.Tie as tie
 
 feed-requires : tie.Need-feed-requires
 feed-requires c κs = search needs

@@ -1,10 +1,10 @@
--- `session::events::closed` meets its contract. Assumes nothing.
+-- `chunks::closed` meets its contract. Assumes nothing.
 use borrow.Author.Needs.{needs}
 use mathlib.Core.Path.{_∙_}
 use denote.Ref.{now}
-use Rattle.session.proofs.Answering.{closing-room, closing-count, closing-written}
-use Rattle.session.proofs.events.closed.Statement.{statement}
-use Rattle.session.proofs.events.closed.Tie as tie
+use Rattle.chunks.proofs.Answering.{closing-room, closing-count, closing-written}
+use Rattle.chunks.proofs.closed.Statement.{statement}
+use Rattle.chunks.proofs.closed.Tie as tie
 
 close-requires : tie.Need-close-requires
 close-requires c κs = search needs

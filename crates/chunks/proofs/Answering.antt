@@ -17,8 +17,8 @@ use Rattle.corridor.specs.Closing.{closing-numbers, closed, closed-into}
 use Rattle.corridor.specs.Feeding.{room, told, left-by, fed}
 use Rattle.corridor.proofs.Views.{view-length}
 use Rattle.corridor.proofs.Chunks.{fed-is, told-fits}
-use Rattle.session.specs.declared.events.Told.{Told}
-use Rattle.session.specs.Chunks.{answered}
+use Rattle.chunks.specs.declared.Told.{Told}
+use Rattle.chunks.specs.Answered.{answered}
 
 module _ (s : Session) (b : List ℕ) (size : ℕ) {r : Fed} (fits : room (length b) ≤ size) (e : r ≡ fed s size b) where
   is : r ≡ record { answer = RowsAnswer.Written (length (told s b)); session = left-by s b }

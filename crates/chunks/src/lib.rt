@@ -1,0 +1,52 @@
+// A chunk of events and the closing rows, for a caller that lends the room: there is nothing to refuse then, and the answer is a count.
+
+ghost use mathlib.Core.Path.{_≡_};
+ghost use Prim.Native.Nat.{_≤_};
+ghost use lib.ListN.{length};
+ghost use Rattle.rows.specs.Buffer.{written};
+ghost use Rattle.corridor.specs.View.{Valid};
+ghost use Rattle.corridor.specs.Feeding.{room, told};
+ghost use Rattle.corridor.specs.Closing.{closing-numbers};
+ghost use Rattle.chunks.specs.Answered.{answered};
+use corridor::RowsAnswer;
+use corridor::Session;
+
+// How many numbers the answers to a chunk have, and the session that it leaves.
+pub struct Told {
+    pub count: usize,
+    pub session: Session,
+}
+
+// A chunk's answers, for which the room is there.
+pub fn answered(s: Session, chunk: &[u8], numbers: &mut [i64]) -> Told
+    requires { ⌜ Valid s × (room (length (now chunk)) ≤ length (now numbers)) ⌝ }
+    ensures { λ r. ⌜ r ≡ answered s (now (chunk .entry)) ⌝ }
+    ensures { λ _. ⌜ now (numbers .exit) ≡ written (now (numbers .entry)) 0 (told s (now (chunk .entry))) ⌝ }
+{
+    let r = s.feed(chunk, numbers);
+    let session = r.session;
+    let answer = r.answer;
+    match answer {
+        RowsAnswer::NoRoom(_) => Told {
+            count: 0,
+            session: session,
+        },
+        RowsAnswer::Written(count) => Told {
+            count: count,
+            session: session,
+        },
+    }
+}
+
+// The closing rows, for which the room is there; the answer is how many numbers they have.
+pub fn closed(s: Session, numbers: &mut [i64]) -> usize
+    requires { ⌜ Valid s × (192 ≤ length (now numbers)) ⌝ }
+    ensures { λ r. ⌜ r ≡ length (closing-numbers s) ⌝ }
+    ensures { λ _. ⌜ now (numbers .exit) ≡ written (now (numbers .entry)) 0 (closing-numbers s) ⌝ }
+{
+    let answer = s.close(numbers);
+    match answer {
+        RowsAnswer::NoRoom(_) => 0,
+        RowsAnswer::Written(count) => count,
+    }
+}
