@@ -1,12 +1,12 @@
--- A whole session: a refused table's row, or feed's rows and the closing rows behind them. Assumes nothing.
+-- A whole session: a refused table's row, or the rows of its events and the closing rows behind them. Assumes nothing.
 use mathlib.Core.Path.{_≡_, refl, sym, ap, subst, _∙_}
 use mathlib.Core.List.{List, [], _++_, map, append-nil}
-use Prim.Native.Nat.{ℕ, _+_, _-_, _*_, _≤_, _<_}
+use Prim.Native.Nat.{ℕ, _+_, _-_, _≤_, _<_}
 use native.Mathlib.Omega.{arith}
 use native.Mathlib.Nat.{zero-add}
 use borrow.Author.Tests.{lt-ltb, le-ltb}
 use lib.IntN.{ℤ}
-use lib.ListN.{length, take, drop, length-append, length-drop, length-map, drop-of-length-le}
+use lib.ListN.{length, take, drop, length-append, length-drop, drop-of-length-le}
 use lib.Seq.{take-all}
 use Rattle.method.specs.Types.{State}
 use Rattle.method.specs.Table.{Opening, opened, refused, opening}
@@ -17,18 +17,20 @@ use Rattle.method.specs.declared.Row.the-variants as Row
 use Rattle.method.specs.declared.TableAnswer.{TableAnswer}
 use Rattle.method.specs.declared.TableReason.{TableReason}
 use Rattle.rows.specs.Buffer.{written}
-use Rattle.rows.proofs.Buffer.{written-long, written-on, written-rest, row-long, numbers-long, numbers-append, numbers-one}
+use Rattle.rows.proofs.Buffer.{written-long, written-on, written-rest, row-long, numbers-append, numbers-one}
 use Rattle.corridor.specs.declared.Session.{Session}
 use Rattle.corridor.specs.declared.Opened.{Opened}
 use Rattle.corridor.specs.declared.RowsAnswer.{RowsAnswer}
-use Rattle.corridor.specs.declared.Fed.{Fed}
 use Rattle.corridor.specs.View.{view, no-session, opened-session, Valid}
-use Rattle.corridor.specs.Feeding.{answers-told, told, left-by, fed, fed-into}
-use Rattle.corridor.specs.Closing.{closed, closed-into}
-use Rattle.corridor.proofs.Views.{view-put, view-length}
+use Rattle.corridor.specs.Feeding.{answers-told, told, left-by}
+use Rattle.corridor.specs.Closing.{closing-numbers}
+use Rattle.corridor.proofs.Views.{view-put}
 use Rattle.corridor.proofs.Theorems.{valid-open}
-use Rattle.corridor.proofs.Chunks.{told-fits, valid-left, fed-is, fed-into-is}
-use Rattle.sundewcup.specs.Running.{room, rows-told, number-in, ran, ran-into}
+use Rattle.corridor.proofs.Chunks.{told-fits, valid-left}
+use Rattle.chunks.specs.declared.Told.{Told}
+use Rattle.chunks.specs.Answered.{answered}
+use Rattle.chunks.proofs.Answering.{closing-few}
+use Rattle.sundewcup.specs.Running.{room, rows-told, ran, ran-into}
 
 -- ---- where the room is not there
 module _ (table events : List ℕ) (out : List ℤ) {k : ℕ} (e : k ≡ room (length events)) (h : length out < k) where
@@ -56,7 +58,7 @@ rows-refused (opened s) events why line said = absurd (subst IsOpened said tt)
 rows-refused (refused w l) events why line said = numbers-one (Row.RefusedTable w l) ∙ ap refusal-row said
 
 rows-opened : (x : Opening) (b : List ℕ) (z : Session) → opened-session x .answer ≡ TableAnswer.Opened → z ≡ opened-session x .session
-    → numbers-of (rows-after x (events-of b)) ≡ told z b ++ numbers-of (map closing-row (view (left-by z b) .lines))
+    → numbers-of (rows-after x (events-of b)) ≡ told z b ++ closing-numbers (left-by z b)
 unfolding opened-session rows-after session-rows
 rows-opened (opened s) b z said e =
     numbers-append (rows-of-all (run s (events-of b))) (map closing-row (finally s (events-of b) .lines))
@@ -100,74 +102,63 @@ module _ (table events : List ℕ) (out : List ℤ) (enough : room (length event
     last-valid = valid-left first events first-valid
 
     abbrev closing : List ℤ
-    closing = numbers-of (map closing-row (view last .lines))
+    closing = closing-numbers last
 
     rows-are : rows-told table events ≡ told first events ++ closing
     rows-are = rows-opened (opening table) events first (sym (ap (λ (z : Opened). z .answer) eo) ∙ said) (ap (λ (z : Opened). z .session) eo)
 
-    closing-long : length closing ≡ 6 * last .count
-    closing-long = numbers-long (map closing-row (view last .lines)) ∙ ap (λ (n : ℕ). 6 * n) (length-map (view last .lines) closing-row ∙ view-length last-valid)
-
     fits : length (told first events) + length closing ≤ length out
-    fits = omega (arith, told-fits first events first-valid, closing-long, last-valid .few)
+    fits = omega (arith, told-fits first events first-valid, closing-few last last-valid)
 
-    module _ (f : Fed) (ef : f ≡ fed first (length out) events) {now : List ℤ} (en : now ≡ fed-into first out events) where
-      feeds : f ≡ record { answer = RowsAnswer.Written (length (told first events)); session = last }
-      feeds = ef ∙ fed-is first (length out) events (omega (arith, enough))
+    module _ (a : Told) (ea : a ≡ answered first events) {now : List ℤ} (en : now ≡ written out 0 (told first events)) where
+      abbrev at : ℕ
+      at = a .count
 
-      fills : now ≡ written out 0 (told first events)
-      fills = en ∙ fed-into-is first out events (omega (arith, enough))
+      at-is : at ≡ length (told first events)
+      at-is = ap (λ (z : Told). z .count) ea
 
-      pub fed-long : length now ≡ length out
-      fed-long = ap length fills ∙ written-long out 0 (told first events) (omega (arith, fits))
+      pub told-long : length now ≡ length out
+      told-long = ap length en ∙ written-long out 0 (told first events) (omega (arith, fits))
 
-      pub fed-last : Valid (f .session)
-      fed-last = rw feeds last-valid
+      pub told-last : Valid (a .session)
+      told-last = rw ea last-valid
 
-      module _ {at : ℕ} (ea : at ≡ number-in (f .answer)) where
-        at-is : at ≡ length (told first events)
-        at-is = ea ∙ ap (λ (z : Fed). number-in (z .answer)) feeds
+      pub at-inside : at + 192 ≤ length out
+      at-inside = omega (arith, at-is, told-fits first events first-valid)
 
-        pub at-inside : at + 192 ≤ length out
-        at-inside = omega (arith, at-is, told-fits first events first-valid)
+      -- the part that is lent for the closing rows is all that is left
+      abbrev part : List ℤ
+      part = take (length now - at) (drop at now)
 
-        -- the part that is lent to `close` is all that is left
-        abbrev part : List ℤ
-        part = take (length now - at) (drop at now)
+      part-is : part ≡ drop at now
+      part-is = take-all (length now - at) (drop at now) (omega (arith, length-drop at now))
 
-        part-is : part ≡ drop at now
-        part-is = take-all (length now - at) (drop at now) (omega (arith, length-drop at now))
+      pub part-long : 192 ≤ length part
+      part-long = rw part-is (omega (arith, length-drop at now, told-long, at-inside))
 
-        none-after : drop (length now - at) (drop at now) ≡ []
-        none-after = drop-of-length-le (drop at now) {i = length now - at} (omega (arith, length-drop at now))
+      none-after : drop (length now - at) (drop at now) ≡ []
+      none-after = drop-of-length-le (drop at now) {i = length now - at} (omega (arith, length-drop at now))
 
-        closes : 6 * last .count ≤ length part
-        closes = rw part-is (omega (arith, length-drop at now, fed-long, at-inside, last-valid .few))
+      closing-is : closing-numbers (a .session) ≡ closing
+      closing-is = ap (λ (z : Told). closing-numbers (z .session)) ea
 
-        module _ (r : RowsAnswer) (er : r ≡ closed (f .session) (length part)) where
-          closed-is : number-in r ≡ 6 * last .count
-          unfolding closed
-          closed-is = rw (er, feeds, le-ltb (length part) (6 * last .count) closes) refl
+      module _ {n : ℕ} (e : n ≡ length (closing-numbers (a .session))) where
+        pub opened-small : at + n ≤ length out
+        opened-small = omega (arith, at-inside, closing-few (a .session) told-last)
 
-          pub opened-small : {n : ℕ} → n ≡ number-in r → at + n ≤ length out
-          opened-small e = omega (arith, closed-is, at-inside, last-valid .few)
+        pub opened-ran : RowsAnswer.Written (at + n) ≡ ran (length out) table events
+        opened-ran =
+            all-ran (at + n) (omega (arith, at-is, ap length closing-is, ap length rows-are, length-append (told first events) closing))
 
-          pub opened-ran : {n : ℕ} → n ≡ number-in r → RowsAnswer.Written (at + n) ≡ ran (length out) table events
-          opened-ran {n} e =
-              all-ran (at + n) (omega (arith, at-is, closed-is, closing-long, ap length rows-are, length-append (told first events) closing))
+      behind : written now at closing ≡ written out 0 (rows-told table events)
+      behind =
+          ap (λ (z : List ℤ). written z at closing) en
+          ∙ ap (λ (k : ℕ). written (written out 0 (told first events)) k closing) (at-is ∙ sym (zero-add (length (told first events))))
+          ∙ written-on out 0 (told first events) (omega (arith, fits)) closing ∙ ap (written out 0) (sym rows-are)
 
-        filled : closed-into (f .session) part ≡ written part 0 closing
-        unfolding closed-into
-        filled = rw (feeds, le-ltb (length part) (6 * last .count) closes) refl
-
-        behind : written now at closing ≡ written out 0 (rows-told table events)
-        behind =
-            ap (λ (z : List ℤ). written z at closing) fills
-            ∙ ap (λ (k : ℕ). written (written out 0 (told first events)) k closing) (at-is ∙ sym (zero-add (length (told first events))))
-            ∙ written-on out 0 (told first events) (omega (arith, fits)) closing ∙ ap (written out 0) (sym rows-are)
-
-        pub opened-into : {ys : List ℤ} → ys ≡ closed-into (f .session) part → take at now ++ (ys ++ drop (length now - at) (drop at now)) ≡ ran-into out table events
-        opened-into {ys} e =
-            all-into _
-            (ap (λ (zs : List ℤ). take at now ++ (ys ++ zs)) none-after ∙ ap (λ (zs : List ℤ). take at now ++ zs) (append-nil ys ∙ e ∙ filled)
-            ∙ ap (λ (zs : List ℤ). take at now ++ written zs 0 closing) part-is ∙ written-rest now at closing ∙ behind)
+      pub opened-into : {ys : List ℤ} → ys ≡ written part 0 (closing-numbers (a .session)) → take at now ++ (ys ++ drop (length now - at) (drop at now)) ≡ ran-into out table events
+      opened-into {ys} e =
+          all-into _
+          (ap (λ (zs : List ℤ). take at now ++ (ys ++ zs)) none-after
+          ∙ ap (λ (zs : List ℤ). take at now ++ zs) (append-nil ys ∙ e ∙ ap (written part 0) closing-is)
+          ∙ ap (λ (zs : List ℤ). take at now ++ written zs 0 closing) part-is ∙ written-rest now at closing ∙ behind)

@@ -36,12 +36,11 @@ pub fn run(table: &[u8], events: &[u8], out: &mut [i64]) -> RowsAnswer
         }
         TableAnswer::Opened => {
             let session = o.session;
-            let f = session.feed(events, out);
-            let told = f.answer;
-            let at = number_in(told);
-            let last = f.session;
-            let closed = last.close(&mut out[at..]);
-            RowsAnswer::Written(at + number_in(closed))
+            let a = chunks::answered(session, events, out);
+            let at = a.count;
+            let last = a.session;
+            let more = chunks::closed(last, &mut out[at..]);
+            RowsAnswer::Written(at + more)
         }
     }
 }

@@ -6,7 +6,7 @@ use Prim.Native.Nat.{_+_, _≤_}
 use native.Mathlib.Omega.{arith}
 use lib.ListN.{length}
 use Rattle.sundewcup.specs.Running.{room}
-use Rattle.sundewcup.proofs.Whole.{none-ran, none-into, refused-ran, refused-into, first-valid, fed-long, fed-last, at-inside, opened-small, opened-ran, opened-into}
+use Rattle.sundewcup.proofs.Whole.{none-ran, none-into, refused-ran, refused-into, first-valid, told-long, told-last, at-inside, part-long, opened-small, opened-ran, opened-into}
 use Rattle.sundewcup.proofs.run.Statement.{statement}
 use Rattle.sundewcup.proofs.run.Tie as tie
 
@@ -14,14 +14,11 @@ use Rattle.sundewcup.proofs.run.Tie as tie
 abbrev start : tie.After-open → tie.Start
 start c = c .before .before .before .before .before
 
-abbrev opening : tie.After-feed → tie.After-open
+abbrev opening : tie.After-answered → tie.After-open
 opening c = c .before .before .before .before .before
 
-abbrev feeding : tie.After-number-in → tie.After-feed
-feeding c = c .before .before
-
-abbrev counting : tie.After-number-in2 → tie.After-number-in
-counting c = c .before .before .before .before .before
+abbrev answering : tie.After-last → tie.After-answered
+answering c = c .before .before
 
 -- ---- no room
 room-requires : tie.Need-room-requires
@@ -60,72 +57,68 @@ returns-2 c =
       refused-into (now (s .args .table)) (now (s .args .events)) (now (s .args .out)) (enough o) (o .«open» .result) (o .«open» .ensures) _ _ said (c .before .write .ensures),
     )
 
--- ---- the events are fed
+-- ---- the events are answered
 enum-told : tie.Need-enum-told
 enum-told c = search needs
 
-feed-requires : tie.Need-feed-requires
-feed-requires c κs =
+answered-requires : tie.Need-answered-requires
+answered-requires c κs =
     let o = c .before .before .before .before in
-    let s = start o in
-    first-valid (now (s .args .table)) (now (s .args .events)) (now (s .args .out)) (enough o) _ (o .«open» .ensures) (c .before .before .enum-told .given .1)
+    let s = start o in (
+      first-valid (now (s .args .table)) (now (s .args .events)) (now (s .args .out)) (enough o) _ (o .«open» .ensures) (c .before .before .enum-told .given .1),
+      omega (arith, enough o),
+    )
 
--- The buffer keeps its length, and feed's rows leave room for the closing rows.
-same-room : (c : tie.After-feed) → length (c .feed .last .1 .1 .0) ≡ length (now (start (opening c) .args .out))
+-- The buffer keeps its length, and the answers leave room for the closing rows.
+same-room : (c : tie.After-answered) → length (c .answered .last .1 .1 .0) ≡ length (now (start (opening c) .args .out))
 same-room c =
     let o = opening c in
     let s = start o in
-    let f = c .feed in
-    fed-long (now (s .args .table)) (now (s .args .events)) (now (s .args .out)) (enough o) _ (o .«open» .ensures)
-    (c .before .before .before .enum-told .given .1) (f .result) (f .ensures .0) (f .ensures .1)
+    let a = c .answered in
+    told-long (now (s .args .table)) (now (s .args .events)) (now (s .args .out)) (enough o) _ (o .«open» .ensures)
+    (c .before .before .before .enum-told .given .1) (a .result) (a .ensures .0) (a .ensures .1)
 
-place-inside : (c : tie.After-number-in) → c .number-in .result + 192 ≤ length (now (start (opening (feeding c)) .args .out))
+place-inside : (c : tie.After-answered) → c .answered .result .count + 192 ≤ length (now (start (opening c) .args .out))
 place-inside c =
-    let o = opening (feeding c) in
+    let o = opening c in
     let s = start o in
-    let f = feeding c .feed in
+    let a = c .answered in
     at-inside (now (s .args .table)) (now (s .args .events)) (now (s .args .out)) (enough o) _ (o .«open» .ensures)
-    (feeding c .before .before .before .enum-told .given .1) (f .result) (f .ensures .0) (f .ensures .1) (c .number-in .ensures)
-
-number-in-requires : tie.Need-number-in-requires
-number-in-requires c κs = search needs
+    (c .before .before .before .enum-told .given .1) (a .result) (a .ensures .0) (a .ensures .1)
 
 -- ---- the closing rows
-mul-close : tie.Need-mul-close
-mul-close c = omega (arith, place-inside (c .before), start (opening (feeding (c .before))) .good)
+mul-closed : tie.Need-mul-closed
+mul-closed c = omega (arith, place-inside (answering c), start (opening (answering c)) .good)
 
-sub-close : tie.Need-sub-close
-sub-close c = omega (arith, place-inside (c .before), same-room (feeding (c .before)))
+sub-closed : tie.Need-sub-closed
+sub-closed c = omega (arith, place-inside (answering c), same-room (answering c))
 
-part-close-start : tie.Need-part-close-start
-part-close-start c = omega (arith, place-inside (c .before), same-room (feeding (c .before)))
+part-closed-start : tie.Need-part-closed-start
+part-closed-start c = omega (arith, place-inside (answering c), same-room (answering c))
 
-part-close-end : tie.Need-part-close-end
-part-close-end c = search needs
+part-closed-end : tie.Need-part-closed-end
+part-closed-end c = search needs
 
-close-requires : tie.Need-close-requires
-close-requires c κs =
-    let at = feeding (c .before .before) in
+closed-requires : tie.Need-closed-requires
+closed-requires c κs =
+    let at = answering (c .before) in
     let o = opening at in
     let s = start o in
-    let f = at .feed in
-    fed-last (now (s .args .table)) (now (s .args .events)) (now (s .args .out)) (enough o) _ (o .«open» .ensures)
-    (at .before .before .before .enum-told .given .1) (f .result) (f .ensures .0) (f .ensures .1)
+    let a = at .answered in
+    let opened = at .before .before .before .enum-told .given .1 in (
+      told-last (now (s .args .table)) (now (s .args .events)) (now (s .args .out)) (enough o) _ (o .«open» .ensures) opened (a .result) (a .ensures .0) (a .ensures .1),
+      part-long (now (s .args .table)) (now (s .args .events)) (now (s .args .out)) (enough o) _ (o .«open» .ensures) opened (a .result) (a .ensures .0) (a .ensures .1),
+    )
 
-number-in-requires-2 : tie.Need-number-in-requires-2
-number-in-requires-2 c κs = search needs
-
-add-t26 : tie.Need-add-t26
-add-t26 c =
-    let at = feeding (counting c) in
+add-t23 : tie.Need-add-t23
+add-t23 c =
+    let at = answering (c .before .before .before) in
     let o = opening at in
     let s = start o in
-    let f = at .feed in
-    let k = c .before .before .close in
+    let a = at .answered in
     let small =
     opened-small (now (s .args .table)) (now (s .args .events)) (now (s .args .out)) (enough o) _ (o .«open» .ensures)
-    (at .before .before .before .enum-told .given .1) (f .result) (f .ensures .0) (f .ensures .1) (counting c .number-in .ensures) (k .result) (k .ensures .0)
-    (c .number-in2 .ensures) in
+    (at .before .before .before .enum-told .given .1) (a .result) (a .ensures .0) (a .ensures .1) (c .before .closed .ensures .0) in
     omega (arith, small, s .good)
 
 same-length-2 : tie.Need-same-length-2
@@ -133,16 +126,16 @@ same-length-2 c = search needs
 
 returns-3 : tie.Need-returns-3
 returns-3 c =
-    let at = feeding (counting c) in
+    let at = answering (c .before .before .before) in
     let o = opening at in
     let s = start o in
-    let f = at .feed in
-    let k = c .before .before .close in
+    let a = at .answered in
+    let k = c .before .closed in
     let opened = at .before .before .before .enum-told .given .1 in (
       opened-ran (now (s .args .table)) (now (s .args .events)) (now (s .args .out)) (enough o) _ (o .«open» .ensures) opened
-          (f .result) (f .ensures .0) (f .ensures .1) (counting c .number-in .ensures) (k .result) (k .ensures .0) (c .number-in2 .ensures),
+          (a .result) (a .ensures .0) (a .ensures .1) (k .ensures .0),
       opened-into (now (s .args .table)) (now (s .args .events)) (now (s .args .out)) (enough o) _ (o .«open» .ensures) opened
-          (f .result) (f .ensures .0) (f .ensures .1) (counting c .number-in .ensures) (k .ensures .1),
+          (a .result) (a .ensures .0) (a .ensures .1) (k .ensures .1),
     )
 
 pub run-spec : {M : Type 1} → statement M
@@ -155,15 +148,13 @@ run-spec =
     enum-known-answer
     write-requires
     enum-told
-    feed-requires
-    number-in-requires
-    mul-close
-    sub-close
-    part-close-start
-    part-close-end
-    close-requires
-    number-in-requires-2
-    add-t26
+    answered-requires
+    mul-closed
+    sub-closed
+    part-closed-start
+    part-closed-end
+    closed-requires
+    add-t23
     same-length
     returns-2
     same-length-2
