@@ -1,4 +1,5 @@
-// A chunk of events and the closing rows, for a caller that lends the room: there is nothing to refuse then, and the answer is a count.
+// The rows that are told, as a count of their numbers. For a caller that lends the room there is nothing to refuse: the events of a chunk are
+// answered, and the closing rows written.
 
 ghost use mathlib.Core.Path.{_≡_};
 ghost use Prim.Native.Nat.{_≤_};
@@ -7,9 +8,19 @@ ghost use Rattle.rows.specs.Buffer.{written};
 ghost use Rattle.corridor.specs.View.{Valid};
 ghost use Rattle.corridor.specs.Feeding.{room, told};
 ghost use Rattle.corridor.specs.Closing.{closing-numbers};
-ghost use Rattle.chunks.specs.Answered.{answered};
+ghost use Rattle.chunks.specs.Answered.{number-in, answered};
 use corridor::RowsAnswer;
 use corridor::Session;
+
+// How many numbers there are, or would have to fit.
+pub fn number_in(answer: RowsAnswer) -> usize
+    ensures { λ r. ⌜ r ≡ number-in answer ⌝ }
+{
+    match answer {
+        RowsAnswer::Written(n) => n,
+        RowsAnswer::NoRoom(n) => n,
+    }
+}
 
 // How many numbers the answers to a chunk have, and the session that it leaves.
 pub struct Told {
@@ -24,17 +35,12 @@ pub fn answered(s: Session, chunk: &[u8], numbers: &mut [i64]) -> Told
     ensures { λ _. ⌜ now (numbers .exit) ≡ written (now (numbers .entry)) 0 (told s (now (chunk .entry))) ⌝ }
 {
     let r = s.feed(chunk, numbers);
-    let session = r.session;
     let answer = r.answer;
-    match answer {
-        RowsAnswer::NoRoom(_) => Told {
-            count: 0,
-            session: session,
-        },
-        RowsAnswer::Written(count) => Told {
-            count: count,
-            session: session,
-        },
+    let count = number_in(answer);
+    let session = r.session;
+    Told {
+        count: count,
+        session: session,
     }
 }
 
@@ -45,8 +51,5 @@ pub fn closed(s: Session, numbers: &mut [i64]) -> usize
     ensures { λ _. ⌜ now (numbers .exit) ≡ written (now (numbers .entry)) 0 (closing-numbers s) ⌝ }
 {
     let answer = s.close(numbers);
-    match answer {
-        RowsAnswer::NoRoom(_) => 0,
-        RowsAnswer::Written(count) => count,
-    }
+    number_in(answer)
 }

@@ -17,7 +17,8 @@ ghost use Rattle.corridor.specs.Feeding.{fed, fed-into};
 ghost use Rattle.corridor.specs.Closing.{closed, closed-into};
 ghost use Rattle.memory.specs.Memory.{session-in};
 ghost use Rattle.asking.specs.Told.{told-into, place-number, report-into};
-ghost use Rattle.hosting.specs.Told.{line-said, reply-in, shift-rows, Leaves, number-in};
+ghost use Rattle.chunks.specs.Answered.{number-in};
+ghost use Rattle.hosting.specs.Told.{line-said, reply-in, shift-rows, Leaves};
 ghost use Rattle.host.specs.Told.{damaged, damaged-count, Tells};
 
 // How many numbers a session takes in memory, for a host that holds its own constant to it.

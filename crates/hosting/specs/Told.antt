@@ -1,4 +1,4 @@
--- What a host is told, in numbers, of a table, an event and a buffer of them, and what stands in its memory then.
+-- What a host is told, in numbers, of a table and an event, and what stands in its memory then.
 use mathlib.Core.Path.{_≡_}
 use mathlib.Core.List.{List, map}
 use Prim.Native.Nat.{ℕ}
@@ -7,7 +7,6 @@ use lib.ListN.{take}
 use Rattle.method.specs.Program.{numbers-of}
 use Rattle.method.specs.declared.Row.the-variants as Row
 use Rattle.corridor.specs.declared.Reply.{Reply}
-use Rattle.corridor.specs.declared.RowsAnswer.{RowsAnswer}
 use Rattle.corridor.specs.Engine.{reply-to}
 use Rattle.memory.specs.Memory.{session-in}
 use Rattle.hosting.specs.Names.{TableAnswer, Session}
@@ -31,9 +30,3 @@ shift-rows r = numbers-of (map Row.Shift (take (r .made) (r .shifts)))
 pub record Leaves (number : ℤ) (before after : List (List ℕ)) (s : Session) : Type 0 where
   pub session : session-in after ≡ s
   pub untouched : (number ≡ pos 0 → ⊥) → after ≡ before
-
--- ---- rows
--- how many numbers there are, or would have to fit
-abbrev pub number-in : RowsAnswer → ℕ
-number-in (RowsAnswer.Written n) = n
-number-in (RowsAnswer.NoRoom n) = n

@@ -16,9 +16,9 @@ ghost use Rattle.corridor.specs.View.{view, Valid, opened-session};
 ghost use Rattle.corridor.specs.Quiet.{quiet-until};
 ghost use Rattle.corridor.specs.Feeding.{fed, fed-into};
 ghost use Rattle.corridor.specs.Closing.{closed, closed-into};
+ghost use Rattle.chunks.specs.Answered.{number-in};
 ghost use Rattle.memory.specs.Memory.{session-in, with-line};
-ghost use Rattle.hosting.specs.Told.{line-said, reply-in, shift-rows, Leaves, number-in};
-use corridor::RowsAnswer;
+ghost use Rattle.hosting.specs.Told.{line-said, reply-in, shift-rows, Leaves};
 use method::Event;
 use method::EventAnswer;
 use method::Holds;
@@ -176,15 +176,6 @@ pub fn event(
     }
 }
 
-fn number_in(answer: RowsAnswer) -> usize
-    ensures { λ r. ⌜ r ≡ number-in answer ⌝ }
-{
-    match answer {
-        RowsAnswer::Written(n) => n,
-        RowsAnswer::NoRoom(n) => n,
-    }
-}
-
 // A buffer of events. Where the room is not there, nothing is done.
 pub fn feed(session: &mut [[u64; 21]; 33], events: &[u8], out: &mut [i64]) -> usize
     requires { ⌜ Valid (session-in (now session)) ⌝ }
@@ -198,7 +189,7 @@ pub fn feed(session: &mut [[u64; 21]; 33], events: &[u8], out: &mut [i64]) -> us
     let next = f.session;
     memory::kept(session, next);
     let answer = f.answer;
-    number_in(answer)
+    chunks::number_in(answer)
 }
 
 // The closing rows. Where the room is not there, nothing is written.
@@ -209,5 +200,5 @@ pub fn close(session: &[[u64; 21]; 33], out: &mut [i64]) -> usize
 {
     let s = memory::taken(session);
     let answer = s.close(out);
-    number_in(answer)
+    chunks::number_in(answer)
 }

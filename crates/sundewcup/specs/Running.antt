@@ -26,8 +26,3 @@ ran size table events =
 -- what the buffer holds then
 unfoldable pub ran-into : List ℤ → List ℕ → List ℕ → List ℤ
 ran-into out table events = cond (ltb (length out) (room (length events))) out (written out 0 (rows-told table events))
-
--- how many numbers there are, or would have to fit
-abbrev pub number-in : RowsAnswer → ℕ
-number-in (RowsAnswer.Written n) = n
-number-in (RowsAnswer.NoRoom n) = n

@@ -2,20 +2,11 @@
 
 ghost use mathlib.Core.Path.{_≡_};
 ghost use lib.ListN.{length};
-ghost use Rattle.sundewcup.specs.Running.{number-in, ran, ran-into};
+ghost use Rattle.chunks.specs.Answered.{number-in};
+ghost use Rattle.sundewcup.specs.Running.{ran, ran-into};
 use corridor::RowsAnswer;
 use method::Row;
 use method::TableAnswer;
-
-// How many numbers there are, or would have to fit.
-fn number_in(answer: RowsAnswer) -> usize
-    ensures { λ r. ⌜ r ≡ number-in answer ⌝ }
-{
-    match answer {
-        RowsAnswer::Written(n) => n,
-        RowsAnswer::NoRoom(n) => n,
-    }
-}
 
 // The rows of the whole: the shifts and the refused events in turn, and a closing row for each contract; or the one row of a refused
 // table. The room is worked out first: where it is not there, nothing is done.
@@ -52,5 +43,5 @@ pub extern "C" fn sundewcup_run(table: &[u8], events: &[u8], out: &mut [i64]) ->
     ensures { λ r. ⌜ r ≡ number-in (ran (length (now (out .entry))) (now (table .entry)) (now (events .entry))) ⌝ }
     ensures { λ _. ⌜ now (out .exit) ≡ ran-into (now (out .entry)) (now (table .entry)) (now (events .entry)) ⌝ }
 {
-    number_in(run(table, events, out))
+    chunks::number_in(run(table, events, out))
 }

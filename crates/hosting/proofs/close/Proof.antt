@@ -6,7 +6,7 @@ use lib.ListN.{length}
 use borrow.Author.Needs.{needs}
 use mathlib.Core.Path.{ap, subst, sym, _∙_}
 use Rattle.corridor.specs.View.{Valid}
-use Rattle.hosting.specs.Told.{number-in}
+use Rattle.chunks.specs.Answered.{number-in}
 use Rattle.hosting.proofs.close.Statement.{statement}
 use Rattle.hosting.proofs.close.Tie as tie
 

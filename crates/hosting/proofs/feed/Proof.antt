@@ -7,7 +7,7 @@ use Rattle.corridor.specs.declared.Fed.{Fed}
 use Rattle.corridor.specs.View.{Valid}
 use Rattle.corridor.specs.Feeding.{fed, fed-into}
 use Rattle.hosting.specs.Names.{Session}
-use Rattle.hosting.specs.Told.{number-in}
+use Rattle.chunks.specs.Answered.{number-in}
 use Rattle.hosting.proofs.feed.Statement.{statement}
 use Rattle.hosting.proofs.feed.Tie as tie
 
