@@ -52,18 +52,19 @@ read-in b =
 pub not-accepted : {why : EventReason} → EventAnswer.Refused why ≡ EventAnswer.Accepted → ⊥
 not-accepted e = let z : _≡_ {A = ℕ} 0 1 = cc in omega arith
 
-in-session-met : (s : State) (t : Seconds) (rest : EventAnswer) → in-session s t rest ≡ EventAnswer.Accepted → Between (s .clock .0) (s .end .0) (t .0)
+pub in-session-met : (s : State) (t : Seconds) (rest : EventAnswer) → in-session s t rest ≡ EventAnswer.Accepted
+    → Between (s .clock .0) (s .end .0) (t .0) × (rest ≡ EventAnswer.Accepted)
 unfolding in-session
 in-session-met s t rest e =
     let late = met-by (leb (t .0) (s .end .0)) not-accepted e in
     let early = met-by (leb (s .clock .0) (t .0)) not-accepted (late .1) in
-    record { least = leb-true (s .clock .0) (t .0) (early .0); most = leb-true (t .0) (s .end .0) (late .0) }
+    (record { least = leb-true (s .clock .0) (t .0) (early .0); most = leb-true (t .0) (s .end .0) (late .0) }, early .1)
 
 pub on-time : (s : State) (e : Event) → verdict s e ≡ EventAnswer.Accepted → Between (s .clock .0) (s .end .0) (time e .0)
 unfolding verdict
 on-time s Damaged h = absurd (not-accepted h)
-on-time s (Tick t) h = in-session-met s t _ h
-on-time s (Quoted q) h = in-session-met s (q .time) _ h
+on-time s (Tick t) h = in-session-met s t _ h .0
+on-time s (Quoted q) h = in-session-met s (q .time) _ h .0
 
 -- ---- a shift leaves clock, end and ids, and so every verdict
 pub ids-shifted : (near : Millionths) (left : ℕ) (side : Side) (now : Seconds) (ls : List Line) → ids (map (shift-line near left side now) ls) ≡ ids ls

@@ -33,3 +33,10 @@ pub mod Books
 pub mod Rule1
 pub mod Rule2
 pub mod Rule3
+pub mod Clock
+pub mod Repeats
+pub mod Looks
+pub mod SameRun
+pub mod Thinning
+pub mod Acceptable
+pub mod Ticks
