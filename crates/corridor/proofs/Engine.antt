@@ -36,7 +36,7 @@ module _ (s : Session) (b : List ℕ) where
   put-is (refused why) v = sym (put-view v)
 
 -- ---- one after another
-answers-are : (s : Session) (bs : List (List ℕ)) → one-by-one s bs ≡ run (view s) bs
+pub answers-are : (s : Session) (bs : List (List ℕ)) → one-by-one s bs ≡ run (view s) bs
 unfolding one-by-one run
 answers-are s [] = refl
 answers-are s (b ∷ bs) =
@@ -50,7 +50,7 @@ unfolding left-after finally
 view-left s [] = refl
 view-left s (b ∷ bs) = view-left (reply-to s b .session) bs ∙ ap (λ (x : State). finally x bs) (view-is s b (answer (view s) (read b)))
 
-session-left : (s : Session) (bs : List (List ℕ)) → Valid s → left-after s bs ≡ put s (finally (view s) bs)
+pub session-left : (s : Session) (bs : List (List ℕ)) → Valid s → left-after s bs ≡ put s (finally (view s) bs)
 unfolding left-after finally
 session-left s [] v = sym (put-view v)
 session-left s (b ∷ bs) v =

@@ -7,7 +7,6 @@ use lib.Dec.{eqb}
 use lib.IntN.{ℤ}
 use borrow.Author.Tests.{eqb-true}
 use Rattle.method.specs.Types.{Millionths, Price, Book, Line, Quote, Event, Damaged, Tick, Quoted, ShiftLine, State, EventAnswer}
-use Rattle.method.specs.Wire.{word, signed, bit}
 use Rattle.method.specs.Pressure.{judge}
 use Rattle.method.specs.Shift.{moved-line, shift-line, shifted, onward, after}
 use Rattle.method.specs.Event.{price-of, read, verdict, with-book, quoted-line, quoted, applied}

@@ -1,6 +1,6 @@
--- Where the paper admits two readings: the examples A1 to A5, A8, A10 to A14 (refusals and printing), B1 to B9 and B11 (holds and shifts)
--- of docs/DECISIONS.md, with a few more and the questions: one table under one claim. A shift line is its second, its side (0 up, 1 down)
--- and its id. Assumes nothing.
+-- Where the paper admits two readings: the examples A1 to A5, A8, A10 to A14 (refusals and printing), B1 to B9 and B11 (holds and shifts),
+-- D8 and D11 (ticks and repeated quotes) of docs/DECISIONS.md, with a few more and the questions: one table under one claim. A shift line is
+-- its second, its side (0 up, 1 down) and its id. Assumes nothing.
 use mathlib.Core.Path.{_≡_, refl}
 use mathlib.Core.List.{List, [], _∷_, _++_, map}
 use Prim.Native.Nat.{ℕ, zero, suc}
@@ -254,6 +254,12 @@ examples =
     ∷ example (ups (90 ∷ [])) 1_000 16 one (bid 10 7 1_046 (empty 30 7 (bid 30 7 1_046 (tick 89 (tick 90 [])))))
     -- A hold that goes on keeps its start, under a quote that presses too.
     ∷ example (ups (70 ∷ [])) 1_000 16 one (bid 10 7 1_046 (bid 40 7 1_047 (tick 70 [])))
+    -- D8, D11. An empty quote on the empty book, ticks and repeated bids, on the due second too: the line is the same without and with them.
+    ∷ example (ups (70 ∷ [])) 1_000 16 one (bid 10 7 1_046 (empty 90 7 []))
+    ∷ example (ups (70 ∷ [])) 1_000 16 one (empty 5 7 (bid 10 7 1_046 (tick 30 (bid 40 7 1_046 (bid 70 7 1_046 (tick 80 (empty 90 7 [])))))))
+    -- A last event that is added may serve what no event served before it.
+    ∷ example [] 1_000 16 one (bid 10 7 1_046 [])
+    ∷ example (ups (70 ∷ [])) 1_000 16 one (bid 10 7 1_046 (tick 70 []))
     -- "A bid of 1045 at 10 wouldn't press: its distance is 5, not under 5."
     ∷ example [] 1_000 2 one (bid 10 7 1_045 (tick 1_000 []))
     -- B11. A frozen line: `70 D 7`, its lower limit 1; ask 0 starts no hold; it still presses up, `150 U 7`; at the end `7 1 71 -14 74`.
