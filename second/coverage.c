@@ -5,6 +5,7 @@
 #include "corridor.h"
 #include "draft.h"
 #include "generate.h"
+#include "same.h"
 #include "slow.h"
 #include "tally.h"
 
@@ -15,34 +16,16 @@
 /* Longer sessions would take the slow engine too long. */
 enum { LONGEST_SLOW_SESSION = 20000 };
 
-static bool same_bounds(Bounds one, Bounds other)
-{
-    return one.lower.steps == other.lower.steps && one.upper.steps == other.upper.steps;
-}
-
-static bool same_line(const Line *line, const Line *slow)
-{
-    bool same = line->centre.steps == slow->centre.steps && line->lower_frozen == slow->lower_frozen
-        && same_bounds(line->limits, slow->limits) && same_bounds(line->interest, slow->interest);
-    for (int level = 0; level < LEVELS; level++) {
-        same = same && line->half_width[level].steps == slow->half_width[level].steps;
-    }
-    return same;
-}
-
 /* Gives the slow engine an accepted event; says whether it answers alike and stands alike. */
 static bool slow_agrees(SlowSession *slow, const Session *session, const uint8_t *bytes, const EventAnswer *answer)
 {
     Shift shifts[MOST_SHIFTS];
     EventDraft event = draft_read_event(bytes);
-    bool same = slow_event(slow, &event, shifts) == answer->shift_count;
-    for (uint32_t i = 0; same && i < answer->shift_count; i++) {
-        same = shifts[i].second.seconds == answer->shifts[i].second.seconds && shifts[i].side == answer->shifts[i].side
-            && shifts[i].id == answer->shifts[i].id;
-    }
+    bool same = slow_event(slow, &event, shifts) == answer->shift_count
+        && same_shifts(shifts, answer->shifts, answer->shift_count);
     for (uint32_t i = 0; same && i < session->line_count; i++) {
         Line line = slow_line(slow, i);
-        same = same_line(&session->lines[i], &line);
+        same = same_shifted(&session->lines[i], &line);
     }
     return same;
 }
