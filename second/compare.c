@@ -265,9 +265,7 @@ static bool judge(const Result *result)
     for (int i = 0; i < COMPARISONS; i++) {
         passed += good_count(NAMES[i], result->differ[i], 0, 0);
     }
-    for (int i = TALLY_FIRST; i < TALLY_COUNTS; i++) {
-        passed += good_count(TALLY_NAMES[i], result->total.inputs[i], GATE_INPUTS_FOR_EACH_COUNT, UINT64_MAX);
-    }
+    passed += tally_enough(&result->total, TALLY_FIRST, GATE_INPUTS_FOR_EACH_COUNT);
     passed += good_count("events in all", result->total.times[TALLY_EVENTS], GATE_EVENTS, UINT64_MAX);
     printf("%d passed, %d failed\n", passed, checks - passed);
     return passed == checks;
@@ -283,7 +281,7 @@ static bool run_gate(int file_count, char **files)
     for (int i = 0; i < file_count; i++) {
         take_file(&result, files[i], (uint64_t)i);
     }
-    tally_print(&result.total);
+    tally_print(&result.total, TALLY_FIRST);
     printf("%" PRIu64 " inputs compared, %d of them files\n", result.inputs, file_count);
     return judge(&result);
 }

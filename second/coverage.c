@@ -71,7 +71,7 @@ int main(int argument_count, char **arguments)
             printf("input %" PRIu64 " differs from second by second\n", number);
         }
     }
-    tally_print(&total);
+    tally_print(&total, TALLY_FIRST);
     printf("%" PRIu64 " compared second by second, %" PRIu64 " different\n", compared, different);
     return different == 0 ? EXIT_SUCCESS : EXIT_FAILURE;
 }

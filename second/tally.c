@@ -8,7 +8,7 @@
 #include <inttypes.h>
 #include <stdio.h>
 
-const char *const TALLY_NAMES[TALLY_COUNTS] = {
+static const char *const NAMES[TALLY_COUNTS] = {
     NULL, "refusal 1", "refusal 2", "refusal 3", "refusal 4", "refusal 5", "refusal 6", "refusal 7", "refusal 8",
     "refusal 9", "refusal 10", "refusal 11", "refusal 12", "refusal 13", "refusal 14",
     [TALLY_OPENED] = "opened",
@@ -147,10 +147,23 @@ void tally_add(TallyTotal *total, const Tally *one)
     }
 }
 
-void tally_print(const TallyTotal *total)
+void tally_print(const TallyTotal *total, TallyCount first)
 {
     printf("%-36s %10s %10s\n", "", "inputs", "in all");
-    for (int i = TALLY_FIRST; i < TALLY_COUNTS; i++) {
-        printf("%-36s %10" PRIu64 " %10" PRIu64 "\n", TALLY_NAMES[i], total->inputs[i], total->times[i]);
+    for (int i = (int)first; i < TALLY_COUNTS; i++) {
+        printf("%-36s %10" PRIu64 " %10" PRIu64 "\n", NAMES[i], total->inputs[i], total->times[i]);
     }
+}
+
+int tally_enough(const TallyTotal *total, TallyCount first, uint64_t least_inputs)
+{
+    int enough = 0;
+    for (int i = (int)first; i < TALLY_COUNTS; i++) {
+        if (total->inputs[i] >= least_inputs) {
+            enough++;
+        } else {
+            printf("failed: %s: %" PRIu64 " inputs\n", NAMES[i], total->inputs[i]);
+        }
+    }
+    return enough;
 }

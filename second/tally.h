@@ -34,8 +34,6 @@ typedef enum {
     TALLY_COUNTS
 } TallyCount;
 
-extern const char *const TALLY_NAMES[TALLY_COUNTS];
-
 /* How often one input brought each thing about. */
 typedef struct { uint64_t times[TALLY_COUNTS]; } Tally;
 
@@ -47,6 +45,11 @@ typedef struct {
 
 Tally tally_input(const Input *input);
 void tally_add(TallyTotal *total, const Tally *one);
-void tally_print(const TallyTotal *total);
+
+/* Prints all counts from the first on. */
+void tally_print(const TallyTotal *total, TallyCount first);
+
+/* How many of the counts from the first on were brought about by enough inputs. The others are told. */
+int tally_enough(const TallyTotal *total, TallyCount first, uint64_t least_inputs);
 
 #endif
