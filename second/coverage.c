@@ -1,10 +1,12 @@
 /*
  * coverage.c: the program "coverage SEED COUNT". It generates inputs, runs the engine on each, and prints
- * what they brought about. Short sessions are also checked second by second against the slow engine.
+ * what they brought about. Short sessions are also checked second by second against the slow engine, and all of
+ * them with free events added. It fails at any difference, and where too few inputs let an added event show.
  */
 #include "corridor.h"
 #include "draft.h"
 #include "generate.h"
+#include "padded.h"
 #include "same.h"
 #include "slow.h"
 #include "tally.h"
@@ -44,6 +46,50 @@ static bool agree_slowly(Session *session, const uint8_t *events, size_t length)
     return same;
 }
 
+/* All that was seen over many inputs. */
+typedef struct {
+    TallyTotal total;
+    uint64_t slow;
+    uint64_t slow_different;
+    uint64_t padded;
+    uint64_t padded_different;
+} Result;
+
+static void take_slowly(Result *result, const Input *input, uint64_t number)
+{
+    Session session;
+    if (corridor_open(input->table, input->table_length, &session).kind == REFUSED
+        || session.session_end.seconds > LONGEST_SLOW_SESSION) {
+        return;
+    }
+    result->slow++;
+    if (!agree_slowly(&session, input->events, input->events_length)) {
+        result->slow_different++;
+        printf("input %" PRIu64 " differs from second by second\n", number);
+    }
+}
+
+static void take_padded(Result *result, const Input *input, uint64_t number, Tally *tally)
+{
+    static Padded padded;
+    Random random = {number};
+    pad(input, &random, &padded);
+    result->padded += padded.length > input->events_length;
+    if (!padded_agrees(input, &padded, tally)) {
+        result->padded_different++;
+        printf("input %" PRIu64 " differs with free events added\n", number);
+    }
+}
+
+/* Each thing that added events can bring about has to come from one input in a hundred. */
+static bool judge(const Result *result, uint64_t count)
+{
+    printf("%" PRIu64 " compared second by second, %" PRIu64 " different\n", result->slow, result->slow_different);
+    printf("%" PRIu64 " compared with free events added, %" PRIu64 " different\n", result->padded, result->padded_different);
+    bool enough = tally_enough(&result->total, TALLY_FIRST_ADDED, count / 100) == TALLY_COUNTS - TALLY_FIRST_ADDED;
+    return enough && result->slow_different == 0 && result->padded_different == 0;
+}
+
 int main(int argument_count, char **arguments)
 {
     if (argument_count != 3) {
@@ -51,27 +97,16 @@ int main(int argument_count, char **arguments)
         return EXIT_FAILURE;
     }
     static uint8_t bytes[LONGEST_INPUT];
+    static Result result;
     uint64_t seed = strtoull(arguments[1], NULL, 10);
     uint64_t count = strtoull(arguments[2], NULL, 10);
-    uint64_t compared = 0;
-    uint64_t different = 0;
-    TallyTotal total = {0};
     for (uint64_t number = 0; number < count; number++) {
-        Session session;
         Input input = input_of(bytes, generate_input(seed, number, bytes));
         Tally one = tally_input(&input);
-        tally_add(&total, &one);
-        if (corridor_open(input.table, input.table_length, &session).kind == REFUSED
-            || session.session_end.seconds > LONGEST_SLOW_SESSION) {
-            continue;
-        }
-        compared++;
-        if (!agree_slowly(&session, input.events, input.events_length)) {
-            different++;
-            printf("input %" PRIu64 " differs from second by second\n", number);
-        }
+        take_slowly(&result, &input, number);
+        take_padded(&result, &input, number, &one);
+        tally_add(&result.total, &one);
     }
-    tally_print(&total, TALLY_FIRST);
-    printf("%" PRIu64 " compared second by second, %" PRIu64 " different\n", compared, different);
-    return different == 0 ? EXIT_SUCCESS : EXIT_FAILURE;
+    tally_print(&result.total, TALLY_FIRST);
+    return judge(&result, count) ? EXIT_SUCCESS : EXIT_FAILURE;
 }

@@ -32,6 +32,15 @@ static const char *const NAMES[TALLY_COUNTS] = {
     [TALLY_ZERO_INSIDE] = "lines ending around zero",
     [TALLY_BEYOND_32_BITS] = "lines ending beyond 32 bits",
     [TALLY_CUT_EVENT] = "last events cut short",
+    [TALLY_TICKS_ADDED] = "ticks added",
+    [TALLY_QUOTES_REPEATED] = "quotes repeated",
+    [TALLY_HELD_QUOTES_REPEATED] = "quotes repeated under a hold",
+    [TALLY_EMPTY_BOOKS_REPEATED] = "empty books repeated",
+    [TALLY_REPEATED_AT_SHIFT] = "quotes repeated at a shift's second",
+    [TALLY_ADDED_REPORTS_SHIFT] = "added events that report a shift",
+    [TALLY_ADDED_BEFORE_ACCEPTED] = "added before any accepted event",
+    [TALLY_ADDED_AFTER_REFUSED] = "added right after a refused event",
+    [TALLY_OTHER_REFUSAL] = "events refused with another number",
 };
 
 static uint64_t frozen_lines(const Session *session)

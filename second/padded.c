@@ -1,0 +1,261 @@
+/*
+ * padded.c: puts free events into an input. It follows the session with the engine, so that they stand where a wrong
+ * engine would show: repeated quotes on lines with a hold, times at both ends of what is allowed, at due seconds and one
+ * second to either side of them.
+ */
+#include "padded.h"
+
+#include "draft.h"
+#include "same.h"
+
+#include <string.h>
+
+/* ---- One free event ---- */
+
+/* The second at which the first hold of a line falls due, or NEVER. */
+static uint32_t due_of_line(const Session *session, uint32_t index)
+{
+    uint32_t up = session->due[SIDE_UP][index].seconds;
+    uint32_t down = session->due[SIDE_DOWN][index].seconds;
+    return up < down ? up : down;
+}
+
+/* Mostly a line with a hold, where there is one. */
+static uint32_t choose_line(Random *random, const Session *session)
+{
+    uint32_t index = count_between(random, 0, session->line_count - 1);
+    uint32_t steps = chance(random, 75) ? session->line_count : 0;
+    while (steps > 0 && due_of_line(session, index) == NEVER.seconds) {
+        index = (index + 1) % session->line_count;
+        steps--;
+    }
+    return index;
+}
+
+static uint32_t choose_time(Random *random, const Session *session, uint32_t index, uint32_t later)
+{
+    uint32_t clock = session->clock.seconds;
+    int64_t time = due_of_line(session, index);
+    switch (between(random, 0, 5)) {
+    case 0: time = clock; break;
+    case 1: time = later; break;
+    case 2:
+    case 3: break;
+    case 4: time += chance(random, 50) ? 1 : -1; break;
+    default: time = between(random, clock, later); break;
+    }
+    /* The line may have no hold, or one that falls due after the later event. */
+    return clock <= time && time <= later ? (uint32_t)time : count_between(random, clock, later);
+}
+
+static EventDraft repeated_quote(const Line *line, uint32_t time)
+{
+    uint32_t flags = (line->has_bid ? FLAG_BID : 0u) | (line->has_ask ? FLAG_ASK : 0u);
+    return (EventDraft){{time, line->id, flags, (uint32_t)line->bid.steps, (uint32_t)line->ask.steps}};
+}
+
+static EventDraft make_free_event(Random *random, const Session *session, uint32_t later)
+{
+    uint32_t index = choose_line(random, session);
+    uint32_t time = choose_time(random, session, index, later);
+    return chance(random, 35) ? draft_tick(time) : repeated_quote(&session->lines[index], time);
+}
+
+/* ---- Padding ---- */
+
+/* For each of the events, when the first accepted one from there on comes; NEVER where none does. */
+static void find_later(const Input *input, Session session, Seconds later[MOST_OWN_EVENTS])
+{
+    size_t count = 0;
+    for (size_t start = 0; start < input->events_length; start += EVENT_BYTES) {
+        EventAnswer answer;
+        const uint8_t *bytes = input->events + start;
+        corridor_event(&session, bytes, input_event_length(input->events_length - start), &answer);
+        later[count] = answer.kind == ACCEPTED ? (Seconds){draft_read_event(bytes).fields[EVENT_TIME]} : NEVER;
+        count++;
+    }
+    for (size_t i = count; i > 1; i--) {
+        if (later[i - 2].seconds == NEVER.seconds) {
+            later[i - 2] = later[i - 1];
+        }
+    }
+}
+
+static void put(Padded *padded, Session *session, const uint8_t *bytes, size_t length, bool added)
+{
+    EventAnswer answer;
+    corridor_event(session, bytes, length, &answer);
+    memcpy(padded->bytes + padded->length, bytes, length);
+    padded->added[padded->length / EVENT_BYTES] = added;
+    padded->length += length;
+}
+
+/* In a right engine the clock is never past the later event. In a wrong one it may be, and that is for the comparison to
+   tell. */
+static bool has_place(const Session *session, Seconds later)
+{
+    return later.seconds != NEVER.seconds && session->clock.seconds <= later.seconds;
+}
+
+static void put_free_event(Padded *padded, Session *session, Random *random, Seconds later)
+{
+    uint8_t bytes[EVENT_BYTES];
+    EventDraft event = make_free_event(random, session, later.seconds);
+    put(padded, session, bytes, draft_write_event(&event, bytes), true);
+}
+
+static void pad_session(const Input *input, Random *random, Session *session, Padded *padded)
+{
+    static const int64_t densities[] = {3, 15, 35, 50};
+    Seconds later[MOST_OWN_EVENTS];
+    int64_t percent = densities[between(random, 0, 3)];
+    int left = MOST_ADDED_EVENTS;
+    find_later(input, *session, later);
+    for (size_t start = 0; start < input->events_length; start += EVENT_BYTES) {
+        Seconds next = later[start / EVENT_BYTES];
+        while (left > 0 && has_place(session, next) && chance(random, percent)) {
+            put_free_event(padded, session, random, next);
+            left--;
+        }
+        put(padded, session, input->events + start, input_event_length(input->events_length - start), false);
+    }
+}
+
+void pad(const Input *input, Random *random, Padded *padded)
+{
+    Session session;
+    padded->length = 0;
+    if (corridor_open(input->table, input->table_length, &session).kind == ACCEPTED) {
+        pad_session(input, random, &session, padded);
+    } else {
+        memcpy(padded->bytes, input->events, input->events_length);
+        memset(padded->added, false, sizeof padded->added);
+        padded->length = input->events_length;
+    }
+}
+
+Input padded_input(const Input *input, const Padded *padded)
+{
+    return (Input){input->table, input->table_length, padded->bytes, padded->length};
+}
+
+/* ---- With and without ---- */
+
+/* A session and all its shift lines, joined. It makes no more of them than fit. */
+typedef struct {
+    Session session;
+    uint32_t count;
+    Shift lines[MOST_SHIFTS];
+} Run;
+
+/* What an input's own events make of its session, with the added ones and without, and how the last own event fared. */
+typedef struct {
+    Run plain;
+    Run padded;
+    bool any_accepted;
+    bool last_refused;
+} Runs;
+
+static void take(Run *run, const uint8_t *bytes, size_t length, EventAnswer *answer)
+{
+    corridor_event(&run->session, bytes, length, answer);
+    for (uint32_t i = 0; answer->kind == ACCEPTED && i < answer->shift_count; i++) {
+        run->lines[run->count] = answer->shifts[i];
+        run->count++;
+    }
+}
+
+static bool same_run(const Run *one, const Run *other)
+{
+    return one->count == other->count && same_shifts(one->lines, other->lines, one->count)
+        && same_session(&one->session, &other->session);
+}
+
+static bool has_hold(const Session *session, uint32_t id)
+{
+    bool found = false;
+    for (uint32_t i = 0; i < session->line_count; i++) {
+        found = found || (session->lines[i].id == id && due_of_line(session, i) != NEVER.seconds);
+    }
+    return found;
+}
+
+static void count_repeat(Tally *tally, const Session *session, const EventDraft *event, const EventAnswer *answer)
+{
+    uint32_t shifts = answer->shift_count;
+    bool shift_now = shifts > 0 && answer->shifts[shifts - 1].second.seconds == event->fields[EVENT_TIME];
+    tally->times[TALLY_QUOTES_REPEATED]++;
+    tally->times[TALLY_HELD_QUOTES_REPEATED] += has_hold(session, event->fields[EVENT_ID]);
+    tally->times[TALLY_EMPTY_BOOKS_REPEATED] += event->fields[EVENT_FLAGS] == 0;
+    tally->times[TALLY_REPEATED_AT_SHIFT] += shift_now;
+}
+
+/* An added event, which only the padded run takes; says whether it was accepted. */
+static bool take_added(Runs *runs, const uint8_t *bytes, Tally *tally)
+{
+    EventAnswer answer;
+    EventDraft event = draft_read_event(bytes);
+    take(&runs->padded, bytes, EVENT_BYTES, &answer);
+    if (answer.kind == REFUSED) {
+        return false;
+    }
+    if (event.fields[EVENT_FLAGS] == FLAG_TICK) {
+        tally->times[TALLY_TICKS_ADDED]++;
+    } else {
+        count_repeat(tally, &runs->padded.session, &event, &answer);
+    }
+    tally->times[TALLY_ADDED_REPORTS_SHIFT] += answer.shift_count > 0;
+    tally->times[TALLY_ADDED_BEFORE_ACCEPTED] += !runs->any_accepted;
+    tally->times[TALLY_ADDED_AFTER_REFUSED] += runs->last_refused;
+    return true;
+}
+
+/* An event of the input, which both runs take; says whether they agree on it. */
+static bool take_own(Runs *runs, const uint8_t *bytes, size_t length, Tally *tally)
+{
+    EventAnswer plain;
+    EventAnswer padded;
+    take(&runs->plain, bytes, length, &plain);
+    take(&runs->padded, bytes, length, &padded);
+    runs->last_refused = plain.kind == REFUSED;
+    runs->any_accepted = runs->any_accepted || plain.kind == ACCEPTED;
+    if (plain.kind == REFUSED && padded.kind == REFUSED) {
+        tally->times[TALLY_OTHER_REFUSAL] += plain.reason != padded.reason;
+        return true;
+    }
+    return plain.kind == padded.kind && same_run(&runs->plain, &runs->padded);
+}
+
+/* Whether the events that were not added are the input's own, one after another. */
+static bool own_events_kept(const Input *input, const Padded *padded)
+{
+    size_t kept = 0;
+    for (size_t start = 0; start < padded->length; start += EVENT_BYTES) {
+        size_t length = input_event_length(padded->length - start);
+        if (padded->added[start / EVENT_BYTES]) {
+            continue;
+        }
+        if (length > input->events_length - kept || memcmp(padded->bytes + start, input->events + kept, length) != 0) {
+            return false;
+        }
+        kept += length;
+    }
+    return kept == input->events_length;
+}
+
+bool padded_agrees(const Input *input, const Padded *padded, Tally *tally)
+{
+    Runs runs = {0};
+    bool agrees = own_events_kept(input, padded);
+    if (corridor_open(input->table, input->table_length, &runs.plain.session).kind == REFUSED) {
+        return agrees && padded->length == input->events_length;
+    }
+    runs.padded.session = runs.plain.session;
+    for (size_t start = 0; agrees && start < padded->length; start += EVENT_BYTES) {
+        const uint8_t *bytes = padded->bytes + start;
+        size_t length = input_event_length(padded->length - start);
+        agrees = padded->added[start / EVENT_BYTES] ? take_added(&runs, bytes, tally)
+                                                    : take_own(&runs, bytes, length, tally);
+    }
+    return agrees && same_run(&runs.plain, &runs.padded);
+}

@@ -1,0 +1,39 @@
+/*
+ * padded.h: the events of an input with free events put between them. A free event is a tick, or a quote that repeats
+ * the standing bid and ask of its contract (an empty one on an empty book too), at a time from the clock to that of the
+ * next accepted event. It leaves all shift lines, joined over the events, and the session after that next event as they
+ * are without it. Where no accepted event follows, nothing is claimed, and none is put.
+ */
+#ifndef PADDED_H
+#define PADDED_H
+
+#include "generate.h"
+#include "input.h"
+#include "random.h"
+#include "tally.h"
+
+enum {
+    MOST_ADDED_EVENTS = MOST_EVENTS,
+    MOST_OWN_EVENTS = (LONGEST_INPUT + EVENT_BYTES - 1) / EVENT_BYTES,
+    LONGEST_PADDED = LONGEST_INPUT + MOST_ADDED_EVENTS * EVENT_BYTES
+};
+
+/* Every event but a last one that is cut short has its 20 bytes, so that places count in those. */
+typedef struct {
+    size_t length;
+    uint8_t bytes[LONGEST_PADDED];
+    bool added[MOST_OWN_EVENTS + MOST_ADDED_EVENTS];
+} Padded;
+
+/* Pads the events of an input that is no longer than a generated one. A refused table accepts none, and gets none. */
+void pad(const Input *input, Random *random, Padded *padded);
+
+/* The input with the padded events in place of its own. */
+Input padded_input(const Input *input, const Padded *padded);
+
+/* Whether the added events are free on this engine: each is accepted; of the input's own events the same ones are accepted;
+   after each of these the session and the joined shift lines are the same as without the added ones. Refused events may be
+   refused with another number, since the clock may have gone on. Counts what the added events brought about. */
+bool padded_agrees(const Input *input, const Padded *padded, Tally *tally);
+
+#endif
