@@ -1,12 +1,14 @@
 /*
  * compare.c: the program "compare". It gives the same inputs to this engine and to the proved one, which is
- * linked as a library, and holds their answers together.
+ * linked as a library, and holds their answers together. It also adds free events to each input (padded.h) and
+ * holds each engine to its own answers without them.
  *
  *   compare gate FILE..   generated inputs of a fixed seed, and then the files. Fails at any difference, and
  *                         where too few inputs brought something about.
  *   compare long SEED     generated inputs without end. Stops at the first difference and keeps its input.
  */
 #include "generate.h"
+#include "padded.h"
 #include "random.h"
 #include "rows.h"
 #include "tally.h"
@@ -24,7 +26,7 @@ enum {
     GATE_EVENTS = 2000000,
     GATE_INPUTS_FOR_EACH_COUNT = 100,
     PROGRESS_INPUTS = 20000,
-    MOST_NUMBERS = ROWS_ROOM(LONGEST_INPUT),
+    MOST_NUMBERS = ROWS_ROOM(LONGEST_PADDED),
     GUARD_NUMBERS = 64
 };
 
@@ -36,6 +38,9 @@ typedef enum {
     COMPARED_PAST_ROWS,
     COMPARED_SHORT_ROOM,
     COMPARED_OTHER_PARTS,
+    COMPARED_PADDED_ROWS,
+    COMPARED_PADDED_LIBRARY,
+    COMPARED_PADDED_SECOND,
     COMPARED_INPUT,
     COMPARISONS
 } Comparison;
@@ -46,6 +51,9 @@ static const char *const NAMES[COMPARISONS] = {
     [COMPARED_PAST_ROWS] = "numbers past the rows untouched",
     [COMPARED_SHORT_ROOM] = "too little room said, nothing written",
     [COMPARED_OTHER_PARTS] = "rows where the table ends elsewhere",
+    [COMPARED_PADDED_ROWS] = "rows with free events added",
+    [COMPARED_PADDED_LIBRARY] = "shift and closing rows with and without free events",
+    [COMPARED_PADDED_SECOND] = "second engine's shift lines and session with and without free events",
     [COMPARED_INPUT] = "input untouched",
 };
 
@@ -62,11 +70,15 @@ typedef struct {
     Answer library;
 } Trial;
 
-/* All that was tried on one input: in the program's parts, and with a table that ends elsewhere. */
+/* All that was tried on one input: in the program's parts, with a table that ends elsewhere, and with free events added; and
+   what it brought about. */
 typedef struct {
     Trial program_parts;
     Trial other_parts;
+    Trial padded_parts;
+    Padded padded;
     bool differs[COMPARISONS];
+    Tally tally;
 } Compared;
 
 /* All that was seen over many inputs. */
@@ -147,6 +159,26 @@ static Input other_parts(const uint8_t *bytes, size_t length, uint64_t number)
     return (Input){bytes, end, bytes + end, length - end};
 }
 
+/* A wrong library may say any count. */
+static bool same_unrefused(const Answer *one, const Answer *other)
+{
+    return one->count <= MOST_NUMBERS && other->count <= MOST_NUMBERS
+        && rows_same_unrefused(one->numbers, one->count, other->numbers, other->count);
+}
+
+/* Tries the input with free events added. There are none with other parts, since no table opens there. */
+static void compare_padded(Compared *compared, const Input *input, uint64_t number)
+{
+    Random random = {number};
+    Trial *trial = &compared->padded_parts;
+    Padded *padded = &compared->padded;
+    pad(input, &random, padded);
+    run_both(trial, padded_input(input, padded), MOST_NUMBERS);
+    compared->differs[COMPARED_PADDED_ROWS] = !same_rows(trial) || !untouched_from(&trial->library, trial->library.count);
+    compared->differs[COMPARED_PADDED_LIBRARY] = !same_unrefused(&compared->program_parts.library, &trial->library);
+    compared->differs[COMPARED_PADDED_SECOND] = !padded_agrees(input, padded, &compared->tally);
+}
+
 /* Tries all on one input; says whether there was no difference. */
 static bool compare(Compared *compared, const uint8_t *bytes, size_t length, uint64_t number)
 {
@@ -164,6 +196,8 @@ static bool compare(Compared *compared, const uint8_t *bytes, size_t length, uin
     differs[COMPARED_PAST_ROWS] = !untouched_from(&trial->library, trial->library.count);
     differs[COMPARED_SHORT_ROOM] = !refuses_short_room(&input);
     differs[COMPARED_OTHER_PARTS] = !same_rows(other) || !untouched_from(&other->library, other->library.count);
+    compared->tally = tally_input(&input);
+    compare_padded(compared, &input, number);
     differs[COMPARED_INPUT] = memcmp(before, bytes, length) != 0;
     bool alike = true;
     for (int i = 0; i < COMPARISONS; i++) {
@@ -208,6 +242,9 @@ static void tell(const Compared *compared)
     if (compared->differs[COMPARED_OTHER_PARTS]) {
         tell_rows(&compared->other_parts);
     }
+    if (compared->differs[COMPARED_PADDED_ROWS]) {
+        tell_rows(&compared->padded_parts);
+    }
 }
 
 /* ---- Many inputs ---- */
@@ -217,11 +254,9 @@ static bool take(Result *result, const uint8_t *bytes, size_t length, const char
 {
     static Compared compared;
     static bool told;
-    Input input = input_of(bytes, length);
-    Tally one = tally_input(&input);
     bool alike = compare(&compared, bytes, length, number);
     result->inputs++;
-    tally_add(&result->total, &one);
+    tally_add(&result->total, &compared.tally);
     for (int i = 0; i < COMPARISONS; i++) {
         result->differ[i] += compared.differs[i];
     }

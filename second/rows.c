@@ -3,6 +3,8 @@
  */
 #include "rows.h"
 
+#include <string.h>
+
 /* Gives where the next row goes. */
 static int64_t *put_row(int64_t *out, enum RowKind kind, int64_t a, int64_t b, int64_t c, int64_t d, int64_t e)
 {
@@ -55,4 +57,26 @@ size_t rows_run(const Input *input, int64_t *out, size_t out_length)
         next = put_event_answer(next, &answer);
     }
     return (size_t)(put_closing_rows(next, &session) - out);
+}
+
+/* The place of the first row from here on that is not of a refused event, or the end. */
+static size_t next_unrefused(const int64_t *rows, size_t count, size_t place)
+{
+    while (place < count && rows[place] == ROW_REFUSED_EVENT) {
+        place += ROW_NUMBERS;
+    }
+    return place;
+}
+
+bool rows_same_unrefused(const int64_t *one, size_t one_count, const int64_t *other, size_t other_count)
+{
+    size_t place = next_unrefused(one, one_count, 0);
+    size_t other_place = next_unrefused(other, other_count, 0);
+    bool same = one_count % ROW_NUMBERS == 0 && other_count % ROW_NUMBERS == 0;
+    while (same && place < one_count && other_place < other_count) {
+        same = memcmp(one + place, other + other_place, ROW_NUMBERS * sizeof *one) == 0;
+        place = next_unrefused(one, one_count, place + ROW_NUMBERS);
+        other_place = next_unrefused(other, other_count, other_place + ROW_NUMBERS);
+    }
+    return same && place == one_count && other_place == other_count;
 }
