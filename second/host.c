@@ -1,12 +1,16 @@
 /*
  * host.c: the program "host". It gives the same inputs to this engine and to the proved one as a host in C has it: a
- * session in memory of its own, one event after another, damaged at the end. It fails at any difference.
+ * session in memory of its own, one event after another, damaged at the end. It also adds free events to each input
+ * (padded.h), which have to leave every number of that memory as it is without them. It fails at any difference, and
+ * where too few inputs let an added event show.
  *
  *   host FILE..     generated inputs of a fixed seed, and then the files
  */
 #include "generate.h"
+#include "padded.h"
 #include "random.h"
 #include "rows.h"
+#include "tally.h"
 #include "text.h"
 
 #include "sundewcup_host.h"
@@ -16,7 +20,7 @@
 #include <stdlib.h>
 #include <string.h>
 
-enum { INPUTS = 3000, MOST_NUMBERS = ROWS_ROOM(LONGEST_INPUT) };
+enum { INPUTS = 3000, INPUTS_FOR_EACH_COUNT = 100, MOST_NUMBERS = ROWS_ROOM(LONGEST_PADDED) };
 
 static const uint64_t SEED = 3;
 
@@ -29,6 +33,9 @@ typedef enum {
     COMPARED_QUESTIONS,
     COMPARED_REPORTS,
     COMPARED_UNCHECKED,
+    COMPARED_PADDED_EVENTS,
+    COMPARED_PADDED_FEED,
+    COMPARED_PADDED_SECOND,
     COMPARED_DAMAGE,
     COMPARISONS
 } Comparison;
@@ -42,6 +49,9 @@ static const char *const NAMES[COMPARISONS] = {
     [COMPARED_QUESTIONS] = "limits and places as the closing rows say",
     [COMPARED_REPORTS] = "all that stands on a line",
     [COMPARED_UNCHECKED] = "the same without the test of the memory",
+    [COMPARED_PADDED_EVENTS] = "shifts and memory with and without free events, event by event",
+    [COMPARED_PADDED_FEED] = "shifts and memory with and without free events, in buffers",
+    [COMPARED_PADDED_SECOND] = "second engine's shift lines and session with and without free events",
     [COMPARED_DAMAGE] = "damaged memory refused, and left as it was",
 };
 
@@ -82,7 +92,8 @@ static bool same(const sundewcup_session *one, const sundewcup_session *other)
 
 /* ---- One event after another ---- */
 
-static void take_event(sundewcup_session *session, const uint8_t *event, size_t length, Answer *answer)
+/* Says whether the event was accepted. */
+static bool take_event(sundewcup_session *session, const uint8_t *event, size_t length, Answer *answer)
 {
     sundewcup_session before = *session;
     sundewcup_session other = *session;
@@ -100,6 +111,7 @@ static void take_event(sundewcup_session *session, const uint8_t *event, size_t 
     } else {
         add(answer, shifts, made * ROW_NUMBERS);
     }
+    return refused == 0;
 }
 
 static void take_closing(const sundewcup_session *session, Answer *answer)
@@ -141,9 +153,8 @@ static void feed(sundewcup_session *session, const uint8_t *events, size_t lengt
     free(out);
 }
 
-static void run_buffers(sundewcup_session *session, const Input *input, uint64_t number, Answer *answer)
+static void run_buffers(sundewcup_session *session, const Input *input, Random *random, Answer *answer)
 {
-    Random random = {number};
     int64_t line;
     answer->count = 0;
     if (sundewcup_open(session, input->table, input->table_length, &line) != 0) {
@@ -152,11 +163,65 @@ static void run_buffers(sundewcup_session *session, const Input *input, uint64_t
     size_t at = 0;
     while (at < input->events_length) {
         size_t left = input->events_length - at;
-        size_t some = (size_t)between(&random, 1, 50) * EVENT_BYTES;
+        size_t some = (size_t)between(random, 1, 50) * EVENT_BYTES;
         feed(session, input->events + at, some < left ? some : left, answer);
         at += some < left ? some : left;
     }
     take_closing(session, answer);
+}
+
+/* ---- With free events ---- */
+
+static bool same_unrefused(const Answer *one, const Answer *other)
+{
+    return rows_same_unrefused(one->numbers, one->count, other->numbers, other->count);
+}
+
+/* Takes the events one by one in two sessions of the same table, the added ones in one of them only. After an event that was
+   not added and is accepted no number of the two may differ; after a refused one the clocks may. */
+static void step_padded(sundewcup_session *plain, sundewcup_session *with, const Padded *padded)
+{
+    static Answer plain_answer;
+    static Answer answer;
+    plain_answer.count = 0;
+    answer.count = 0;
+    for (size_t at = 0; at < padded->length; at += EVENT_BYTES) {
+        size_t length = input_event_length(padded->length - at);
+        bool accepted = take_event(with, padded->bytes + at, length, &answer);
+        if (padded->added[at / EVENT_BYTES]) {
+            expect(COMPARED_PADDED_EVENTS, accepted);
+        } else {
+            expect(COMPARED_PADDED_EVENTS, accepted == take_event(plain, padded->bytes + at, length, &plain_answer));
+            expect(COMPARED_PADDED_EVENTS, !accepted || same(plain, with));
+        }
+    }
+    expect(COMPARED_PADDED_EVENTS, same(plain, with) && same_unrefused(&plain_answer, &answer));
+}
+
+static TallyTotal total;
+
+/* The end and the answer are those of the input without free events. */
+static void take_padded(const Input *input, const sundewcup_session *end, const Answer *plain_answer, Random *random)
+{
+    static Padded padded;
+    static Answer answer;
+    int64_t line;
+    Tally tally = {{0}};
+    pad(input, random, &padded);
+    expect(COMPARED_PADDED_SECOND, padded_agrees(input, &padded, &tally));
+    tally_add(&total, &tally);
+    sundewcup_session *plain = make_session();
+    sundewcup_session *with = make_session();
+    if (sundewcup_open(plain, input->table, input->table_length, &line) == 0) {
+        Input with_added = padded_input(input, &padded);
+        *with = *plain;
+        step_padded(plain, with, &padded);
+        expect(COMPARED_PADDED_EVENTS, same(end, with));
+        run_buffers(with, &with_added, random, &answer);
+        expect(COMPARED_PADDED_FEED, same(end, with) && same_unrefused(plain_answer, &answer));
+    }
+    free(plain);
+    free(with);
 }
 
 /* ---- Questions ---- */
@@ -285,11 +350,12 @@ static void take(const uint8_t *bytes, size_t length, uint64_t number)
     static Answer events;
     static Answer buffers;
     Input input = input_of(bytes, length);
+    Random random = {number};
     sundewcup_session *one = make_session();
     sundewcup_session *other = make_session();
     second.count = rows_run(&input, second.numbers, MOST_NUMBERS);
     run_events(one, &input, &events);
-    run_buffers(other, &input, number, &buffers);
+    run_buffers(other, &input, &random, &buffers);
     size_t size = second.count * sizeof(int64_t);
     expect(COMPARED_ROWS, second.count == events.count && memcmp(second.numbers, events.numbers, size) == 0);
     expect(COMPARED_TEXT, text_same(events.numbers, events.count, bytes, length));
@@ -297,6 +363,7 @@ static void take(const uint8_t *bytes, size_t length, uint64_t number)
         expect(COMPARED_FEED, second.count == buffers.count && memcmp(second.numbers, buffers.numbers, size) == 0);
     }
     expect(COMPARED_FEED, same(one, other));
+    take_padded(&input, one, &events, &random);
     ask_all(one, &events);
     ask_reports(one, &input);
     expect(COMPARED_DAMAGE, sundewcup_check(one) == 0);
@@ -318,10 +385,26 @@ static void take_file(const char *name, uint64_t number)
     take(bytes, length, number);
 }
 
+/* Each comparison over all inputs counts for one, and so does each thing that enough inputs brought about; and one says that
+   a session has the length of the header's. */
+static bool judge(void)
+{
+    int checks = 1 + COMPARISONS + (TALLY_COUNTS - TALLY_FIRST_ADDED);
+    int passed = sundewcup_session_numbers() == SUNDEWCUP_SESSION_NUMBERS;
+    for (int i = 0; i < COMPARISONS; i++) {
+        if (differ[i]) {
+            printf("different: %s\n", NAMES[i]);
+        }
+        passed += !differ[i];
+    }
+    passed += tally_enough(&total, TALLY_FIRST_ADDED, INPUTS_FOR_EACH_COUNT);
+    printf("%d passed, %d failed\n", passed, checks - passed);
+    return passed == checks;
+}
+
 int main(int count, char **words)
 {
     static uint8_t bytes[LONGEST_INPUT];
-    int passed = sundewcup_session_numbers() == SUNDEWCUP_SESSION_NUMBERS;
     for (uint64_t number = 0; number < INPUTS; number++) {
         take(bytes, generate_input(SEED, number, bytes), number);
     }
@@ -331,13 +414,7 @@ int main(int count, char **words)
     sundewcup_session *unfilled = make_session();
     expect(COMPARED_DAMAGE, sundewcup_check(unfilled) == SUNDEWCUP_DAMAGED && damaged_sessions > INPUTS / 4);
     free(unfilled);
+    tally_print(&total, TALLY_FIRST_ADDED);
     printf("%d inputs, %d of them files; %zu sessions damaged\n", INPUTS + count - 1, count - 1, damaged_sessions);
-    for (int i = 0; i < COMPARISONS; i++) {
-        if (differ[i]) {
-            printf("different: %s\n", NAMES[i]);
-        }
-        passed += !differ[i];
-    }
-    printf("%d passed, %d failed\n", passed, COMPARISONS + 1 - passed);
-    return passed == COMPARISONS + 1 ? EXIT_SUCCESS : EXIT_FAILURE;
+    return judge() ? EXIT_SUCCESS : EXIT_FAILURE;
 }
