@@ -166,7 +166,8 @@ static bool same_unrefused(const Answer *one, const Answer *other)
         && rows_same_unrefused(one->numbers, one->count, other->numbers, other->count);
 }
 
-/* Tries the input with free events added. There are none with other parts, since no table opens there. */
+/* Tries the input with free events added. With other parts there is nothing to add to: a table opens there only where they
+   happen to be the program's. */
 static void compare_padded(Compared *compared, const Input *input, uint64_t number)
 {
     Random random = {number};

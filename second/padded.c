@@ -12,7 +12,7 @@
 
 /* ---- One free event ---- */
 
-/* The second at which the first hold of a line falls due, or NEVER. */
+/* The second at which a line's first hold falls due; NEVER where it has none. */
 static uint32_t due_of_line(const Session *session, uint32_t index)
 {
     uint32_t up = session->due[SIDE_UP][index].seconds;
@@ -90,8 +90,7 @@ static void put(Padded *padded, Session *session, const uint8_t *bytes, size_t l
     padded->length += length;
 }
 
-/* In a right engine the clock is never past the later event. In a wrong one it may be, and that is for the comparison to
-   tell. */
+/* Only a wrong engine's clock can be past the later event; that is for the comparison to tell. */
 static bool has_place(const Session *session, Seconds later)
 {
     return later.seconds != NEVER.seconds && session->clock.seconds <= later.seconds;
@@ -104,6 +103,7 @@ static void put_free_event(Padded *padded, Session *session, Random *random, Sec
     put(padded, session, bytes, draft_write_event(&event, bytes), true);
 }
 
+/* Some inputs get few free events, so that one alone shows, and some get several at one place. */
 static void pad_session(const Input *input, Random *random, Session *session, Padded *padded)
 {
     static const int64_t densities[] = {3, 15, 35, 50};
@@ -148,7 +148,7 @@ typedef struct {
     Shift lines[MOST_SHIFTS];
 } Run;
 
-/* What an input's own events make of its session, with the added ones and without, and how the last own event fared. */
+/* The engine without the added events and with them, and how the input's own events have fared. */
 typedef struct {
     Run plain;
     Run padded;

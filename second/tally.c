@@ -39,7 +39,7 @@ static const char *const NAMES[TALLY_COUNTS] = {
     [TALLY_REPEATED_AT_SHIFT] = "quotes repeated at a shift's second",
     [TALLY_ADDED_REPORTS_SHIFT] = "added events that report a shift",
     [TALLY_ADDED_BEFORE_ACCEPTED] = "added before any accepted event",
-    [TALLY_ADDED_AFTER_REFUSED] = "added right after a refused event",
+    [TALLY_ADDED_AFTER_REFUSED] = "added after a refused event",
     [TALLY_OTHER_REFUSAL] = "events refused with another number",
 };
 
