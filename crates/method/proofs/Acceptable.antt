@@ -69,8 +69,8 @@ repeat-open table o e past told h b r its x =
     its (every-with _ _ _ (λ l p q i. crossed-line b l x (p i) q) (s .lines) (r .standing) books)
 
 -- ---- a time from the clock to that of an accepted event
-pub in-time : (s : State) (b f : List ℕ) → Accepts s f → s .clock .0 ≤ word b 0 → word b 0 ≤ word f 0 → InSession s b
-in-time s b f a c l =
+pub in-session-between : (s : State) (b f : List ℕ) → Accepts s f → s .clock .0 ≤ word b 0 → word b 0 ≤ word f 0 → InSession s b
+in-session-between s b f a c l =
     let e = on-time s (read f) a .most in
     let t : word f 0 ≤ s .end .0 = rw (accepted-time s f a) at e in
     record { to-end = omega arith; from-clock = c }

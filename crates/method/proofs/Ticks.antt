@@ -8,7 +8,7 @@ use Rattle.method.specs.Rules.{tick-taken, quote-taken}
 use Rattle.method.specs.Ticks.{TicksAreFree, FreeFromSound, TwoLooksAreOne, TickAcceptable, RepeatAcceptable, ThinnedIsSame, AlikeIsSame, PutIsAlike}
 use Rattle.method.proofs.EventAnswered.{answered-verdict}
 use Rattle.method.proofs.Answers.{sound-opening, sound-reached}
-use Rattle.method.proofs.Acceptable.{repeat-open, in-time}
+use Rattle.method.proofs.Acceptable.{repeat-open, in-session-between}
 use Rattle.method.proofs.Repeats.{still-read}
 use Rattle.method.proofs.Looks.{two-looks}
 use Rattle.method.proofs.SameRun.{same-back, same-on, thinned-run, same-answers}
@@ -44,9 +44,9 @@ two-looks-are-one s b f cs ds v n r k = two-looks s v (read b) (read f) cs (stil
 
 -- ---- that there is always such an event
 pub tick-acceptable : TickAcceptable
-tick-acceptable s b f t a c l = answered-verdict s b (tick-taken t (in-time s b f a c l))
+tick-acceptable s b f t a c l = answered-verdict s b (tick-taken t (in-session-between s b f a c l))
 
 pub repeat-acceptable : RepeatAcceptable
 repeat-acceptable table o e past told h b f r its a c l =
     let s = reached o past told in
-    answered-verdict s b (quote-taken (r .quote) (in-time s b f a c l) its (repeat-open table o e past told h b r its))
+    answered-verdict s b (quote-taken (r .quote) (in-session-between s b f a c l) its (repeat-open table o e past told h b r its))

@@ -260,6 +260,9 @@ examples =
     -- A last event that is added may serve what no event served before it.
     ∷ example [] 1_000 16 one (bid 10 7 1_046 [])
     ∷ example (ups (70 ∷ [])) 1_000 16 one (bid 10 7 1_046 (tick 70 []))
+    -- A quote that is late after a tick is taken where the tick is left out, and ends the pressure.
+    ∷ example (ups (70 ∷ [])) 1_000 16 one (bid 10 7 1_046 (tick 70 (bid 50 7 1_000 (empty 90 7 []))))
+    ∷ example [] 1_000 16 one (bid 10 7 1_046 (bid 50 7 1_000 (empty 90 7 [])))
     -- "A bid of 1045 at 10 wouldn't press: its distance is 5, not under 5."
     ∷ example [] 1_000 2 one (bid 10 7 1_045 (tick 1_000 []))
     -- B11. A frozen line: `70 D 7`, its lower limit 1; ask 0 starts no hold; it still presses up, `150 U 7`; at the end `7 1 71 -14 74`.

@@ -1,5 +1,6 @@
--- Ticks are free (METHOD 26): an event that tells nothing new changes no shift line and no later session. A part of rule 2, for two sites
--- that get ticks at different rates. Its words and its statements, and no proof; the name in brackets is the theorem, in proofs/Ticks.
+-- Ticks are free (METHOD 26): an event that tells nothing new, put before an accepted event that is not earlier, changes no shift line and no
+-- later session. It follows from rule 2's definition and from which events are accepted. Words and statements, and no proof; the name in
+-- brackets is the theorem, in proofs/Ticks.
 use mathlib.Core.Path.{_≡_}
 use mathlib.Core.List.{List, [], _∷_, _++_}
 use Prim.Native.Nat.{ℕ, _≤_}
@@ -79,7 +80,7 @@ TwoLooksAreOne =
     → Right s (read f) (accepted (cs ++ ds)) × (next s (read f) (accepted (cs ++ ds)) ≡ next m (read f) (accepted ds))
 
 -- ---- that there is always such an event (METHOD 26.4)
--- A tick at a time from the clock to the later event's is acceptable, in any state, (tick-acceptable)
+-- A tick at a time from the clock to the later event's is acceptable in any state (tick-acceptable),
 abbrev pub TickAcceptable : Type 0
 TickAcceptable =
     (s : State) (b f : List ℕ) → IsTick b → Accepts s f → s .clock .0 ≤ word b 0 → word b 0 ≤ word f 0 → Accepts s b
@@ -92,8 +93,8 @@ RepeatAcceptable =
     Repeats s b → (Unknown s b → ⊥) → Accepts s f → s .clock .0 ≤ word b 0 → word b 0 ≤ word f 0 → Accepts s b)
 
 -- ---- many at once (METHOD 26.6)
--- ds is bs less events that are refused or tell nothing new, each as it meets the session of the whole list. After each of the latter an
--- accepted event is left, so that the last accepted one stays.
+-- ds is bs less events that are refused or tell nothing new, each as it meets the session of the whole list. The next event that is left after
+-- each of the latter is an accepted one; so the last accepted event stays, and no event is left that was refused only because of one that is not.
 pub data Thinned : State → List (List ℕ) → List (List ℕ) → Type 0 where
   none : {s : State} → Thinned s [] []
   kept :
@@ -108,7 +109,7 @@ pub data Thinned : State → List (List ℕ) → List (List ℕ) → Type 0 wher
 abbrev pub ThinnedIsSame : Type 0
 ThinnedIsSame = (s : State) (bs ds : List (List ℕ)) → Sound s → Thinned s bs ds → Same s bs ds
 
--- two lists that differ by such events alone: less some of them, both are one list
+-- two lists that differ by such events alone: less some of these, in this way, both are one list
 pub record Alike (s : State) (bs ds : List (List ℕ)) : Type 0 where
   pub common : List (List ℕ)
   pub one : Thinned s bs common

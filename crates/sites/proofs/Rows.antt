@@ -12,7 +12,7 @@ use Rattle.method.specs.Event.{Answer, accepted, refused}
 use Rattle.method.specs.CalledFor.{joined}
 use Rattle.method.specs.Program.{rows-of, rows-of-all, row-numbers, numbers-of}
 use Rattle.rows.proofs.Buffer.{numbers-long}
-use Rattle.sites.specs.Sites.{shifts-among, ShiftRowsAreLines}
+use Rattle.sites.specs.Sites.{shifts-among, OnlyShiftsAreLines}
 
 -- ---- as rows
 abbrev lines-in : List Row → List ShiftLine
@@ -41,8 +41,8 @@ in-numbers (Row.RefusedEvent why ∷ rows) = in-numbers rows
 in-numbers (Row.RefusedTable why line ∷ rows) = in-numbers rows
 in-numbers (Row.Closed c ∷ rows) = in-numbers rows
 
-pub shift-rows-are-lines : ShiftRowsAreLines
-shift-rows-are-lines rs =
+pub only-shifts-are-lines : OnlyShiftsAreLines
+only-shifts-are-lines rs =
     let rows : List Row = rows-of-all rs in
     let sixth : length (numbers-of rows) / 6 ≡ length rows = omega (arith, numbers-long rows) in
     rw (sixth, in-numbers rows, lines-joined rs)
