@@ -168,12 +168,11 @@ static bool same_unrefused(const Answer *one, const Answer *other)
 
 /* Tries the input with free events added. With other parts there is nothing to add to: a table opens there only where they
    happen to be the program's. */
-static void compare_padded(Compared *compared, const Input *input, uint64_t number)
+static void compare_padded(Compared *compared, const Input *input)
 {
-    Random random = {number};
     Trial *trial = &compared->padded_parts;
     Padded *padded = &compared->padded;
-    pad(input, &random, padded);
+    pad(input, padded);
     run_both(trial, padded_input(input, padded), MOST_NUMBERS);
     compared->differs[COMPARED_PADDED_ROWS] = !same_rows(trial) || !untouched_from(&trial->library, trial->library.count);
     compared->differs[COMPARED_PADDED_LIBRARY] = !same_unrefused(&compared->program_parts.library, &trial->library);
@@ -198,7 +197,7 @@ static bool compare(Compared *compared, const uint8_t *bytes, size_t length, uin
     differs[COMPARED_SHORT_ROOM] = !refuses_short_room(&input);
     differs[COMPARED_OTHER_PARTS] = !same_rows(other) || !untouched_from(&other->library, other->library.count);
     compared->tally = tally_input(&input);
-    compare_padded(compared, &input, number);
+    compare_padded(compared, &input);
     differs[COMPARED_INPUT] = memcmp(before, bytes, length) != 0;
     bool alike = true;
     for (int i = 0; i < COMPARISONS; i++) {

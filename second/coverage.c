@@ -72,8 +72,7 @@ static void take_slowly(Result *result, const Input *input, uint64_t number)
 static void take_padded(Result *result, const Input *input, uint64_t number, Tally *tally)
 {
     static Padded padded;
-    Random random = {number};
-    pad(input, &random, &padded);
+    pad(input, &padded);
     result->padded += padded.length > input->events_length;
     if (!padded_agrees(input, &padded, tally)) {
         result->padded_different++;

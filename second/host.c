@@ -207,7 +207,7 @@ static void take_padded(const Input *input, const sundewcup_session *end, const 
     static Answer answer;
     int64_t line;
     Tally tally = {{0}};
-    pad(input, random, &padded);
+    pad(input, &padded);
     expect(COMPARED_PADDED_SECOND, padded_agrees(input, &padded, &tally));
     tally_add(&total, &tally);
     sundewcup_session *plain = make_session();

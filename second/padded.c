@@ -6,6 +6,7 @@
 #include "padded.h"
 
 #include "draft.h"
+#include "random.h"
 #include "same.h"
 
 #include <string.h>
@@ -121,12 +122,21 @@ static void pad_session(const Input *input, Random *random, Session *session, Pa
     }
 }
 
-void pad(const Input *input, Random *random, Padded *padded)
+static Random random_of(const Input *input)
+{
+    Random random = {0};
+    fold(&random, input->table, input->table_length);
+    fold(&random, input->events, input->events_length);
+    return random;
+}
+
+void pad(const Input *input, Padded *padded)
 {
     Session session;
+    Random random = random_of(input);
     padded->length = 0;
     if (corridor_open(input->table, input->table_length, &session).kind == ACCEPTED) {
-        pad_session(input, random, &session, padded);
+        pad_session(input, &random, &session, padded);
     } else {
         memcpy(padded->bytes, input->events, input->events_length);
         memset(padded->added, false, sizeof padded->added);

@@ -9,7 +9,6 @@
 
 #include "generate.h"
 #include "input.h"
-#include "random.h"
 #include "tally.h"
 
 enum {
@@ -25,8 +24,9 @@ typedef struct {
     bool added[MOST_OWN_EVENTS + MOST_ADDED_EVENTS];
 } Padded;
 
-/* Pads the events of an input that is no longer than a generated one. A refused table accepts none, and gets none. */
-void pad(const Input *input, Random *random, Padded *padded);
+/* Pads the events of an input that is no longer than a generated one. A refused table accepts none, and gets none. What is put
+   depends on the input alone, so that a kept input is padded as it was. */
+void pad(const Input *input, Padded *padded);
 
 /* The input with the padded events in place of its own. */
 Input padded_input(const Input *input, const Padded *padded);

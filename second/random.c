@@ -12,6 +12,13 @@ uint64_t draw(Random *random)
     return mixed ^ mixed >> 31;
 }
 
+void fold(Random *random, const uint8_t *bytes, size_t length)
+{
+    for (size_t i = 0; i < length; i++) {
+        random->state = draw(random) ^ bytes[i];
+    }
+}
+
 int64_t between(Random *random, int64_t least, int64_t most)
 {
     return least + (int64_t)(draw(random) % (uint64_t)(most - least + 1));

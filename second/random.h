@@ -8,11 +8,15 @@
 #define RANDOM_H
 
 #include <stdbool.h>
+#include <stddef.h>
 #include <stdint.h>
 
 typedef struct { uint64_t state; } Random;
 
 uint64_t draw(Random *random);
+
+/* Lets all that is drawn from here on depend on these bytes too. */
+void fold(Random *random, const uint8_t *bytes, size_t length);
 
 /* A number from least to most, both included. */
 int64_t between(Random *random, int64_t least, int64_t most);
