@@ -6,6 +6,8 @@
  *   compare gate FILE..   generated inputs of a fixed seed, and then the files. Fails at any difference, and
  *                         where too few inputs brought something about.
  *   compare long SEED     generated inputs without end. Stops at the first difference and keeps its input.
+ *
+ * What is tried on an input depends on its bytes alone, so that a kept one shows its difference again.
  */
 #include "generate.h"
 #include "padded.h"
@@ -146,15 +148,14 @@ static bool refuses_short_room(const Input *input)
 }
 
 /* Lets the table end elsewhere: a byte sooner or later, at the input's end, or anywhere. */
-static Input other_parts(const uint8_t *bytes, size_t length, uint64_t number)
+static Input other_parts(const uint8_t *bytes, size_t length, Random *random)
 {
-    Random random = {number};
     size_t end = input_of(bytes, length).table_length;
-    switch (between(&random, 0, 3)) {
+    switch (between(random, 0, 3)) {
     case 0: end -= end > 0; break;
     case 1: end += end < length; break;
     case 2: end = length; break;
-    default: end = (size_t)between(&random, 0, (int64_t)length); break;
+    default: end = (size_t)between(random, 0, (int64_t)length); break;
     }
     return (Input){bytes, end, bytes + end, length - end};
 }
@@ -180,17 +181,19 @@ static void compare_padded(Compared *compared, const Input *input)
 }
 
 /* Tries all on one input; says whether there was no difference. */
-static bool compare(Compared *compared, const uint8_t *bytes, size_t length, uint64_t number)
+static bool compare(Compared *compared, const uint8_t *bytes, size_t length)
 {
     static uint8_t before[LONGEST_INPUT];
     Trial *trial = &compared->program_parts;
     Trial *other = &compared->other_parts;
     bool *differs = compared->differs;
     Input input = input_of(bytes, length);
+    Random random = {0};
+    fold(&random, bytes, length);
     memcpy(before, bytes, length);
-    /* Every other input is lent more room than it needs. */
-    run_both(trial, input, number % 2 == 0 ? ROWS_ROOM(input.events_length) : MOST_NUMBERS);
-    run_both(other, other_parts(bytes, length, number), MOST_NUMBERS);
+    /* About half of the inputs are lent more room than they need. */
+    run_both(trial, input, chance(&random, 50) ? ROWS_ROOM(input.events_length) : MOST_NUMBERS);
+    run_both(other, other_parts(bytes, length, &random), MOST_NUMBERS);
     differs[COMPARED_ROWS] = !same_rows(trial);
     differs[COMPARED_TEXT] = !text_same(trial->library.numbers, trial->library.count, bytes, length);
     differs[COMPARED_PAST_ROWS] = !untouched_from(&trial->library, trial->library.count);
@@ -254,7 +257,7 @@ static bool take(Result *result, const uint8_t *bytes, size_t length, const char
 {
     static Compared compared;
     static bool told;
-    bool alike = compare(&compared, bytes, length, number);
+    bool alike = compare(&compared, bytes, length);
     result->inputs++;
     tally_add(&result->total, &compared.tally);
     for (int i = 0; i < COMPARISONS; i++) {
