@@ -123,6 +123,12 @@ static bool same_rows(const Trial *trial)
         && memcmp(trial->second.numbers, trial->library.numbers, count * sizeof(int64_t)) == 0;
 }
 
+/* How many of the numbers may be read, since a wrong library may say any count. */
+static size_t readable(const Answer *answer)
+{
+    return answer->count < MOST_NUMBERS ? answer->count : MOST_NUMBERS;
+}
+
 static bool untouched_from(const Answer *answer, size_t first)
 {
     for (size_t i = first; i < MOST_NUMBERS + GUARD_NUMBERS; i++) {
@@ -160,23 +166,19 @@ static Input other_parts(const uint8_t *bytes, size_t length, Random *random)
     return (Input){bytes, end, bytes + end, length - end};
 }
 
-/* A wrong library may say any count. */
-static bool same_unrefused(const Answer *one, const Answer *other)
-{
-    return one->count <= MOST_NUMBERS && other->count <= MOST_NUMBERS
-        && rows_same_unrefused(one->numbers, one->count, other->numbers, other->count);
-}
-
 /* Tries the input with free events added. With other parts there is nothing to add to: a table opens there only where they
    happen to be the program's. */
 static void compare_padded(Compared *compared, const Input *input)
 {
+    const Answer *without = &compared->program_parts.library;
     Trial *trial = &compared->padded_parts;
+    const Answer *with = &trial->library;
     Padded *padded = &compared->padded;
     pad(input, padded);
     run_both(trial, padded_input(input, padded), MOST_NUMBERS);
-    compared->differs[COMPARED_PADDED_ROWS] = !same_rows(trial) || !untouched_from(&trial->library, trial->library.count);
-    compared->differs[COMPARED_PADDED_LIBRARY] = !same_unrefused(&compared->program_parts.library, &trial->library);
+    compared->differs[COMPARED_PADDED_ROWS] = !same_rows(trial) || !untouched_from(with, with->count);
+    compared->differs[COMPARED_PADDED_LIBRARY]
+        = !rows_same_unrefused(without->numbers, readable(without), with->numbers, readable(with));
     compared->differs[COMPARED_PADDED_SECOND] = !padded_agrees(input, padded, &compared->tally);
 }
 
@@ -214,7 +216,7 @@ static bool compare(Compared *compared, const uint8_t *bytes, size_t length)
 static void print_row(const char *whose, const Answer *answer, size_t start)
 {
     printf("    %s:", whose);
-    for (size_t i = start; i < start + ROW_NUMBERS && i < answer->count && i < MOST_NUMBERS; i++) {
+    for (size_t i = start; i < start + ROW_NUMBERS && i < readable(answer); i++) {
         printf(" %" PRId64, answer->numbers[i]);
     }
     printf(" (%zu numbers in all)\n", answer->count);

@@ -68,15 +68,20 @@ static size_t next_unrefused(const int64_t *rows, size_t count, size_t place)
     return place;
 }
 
+/* Numbers after the last whole row, which only a wrong engine writes, are a difference. */
+RowPlaces rows_first_difference(const int64_t *one, size_t one_count, const int64_t *other, size_t other_count)
+{
+    RowPlaces places = {next_unrefused(one, one_count, 0), next_unrefused(other, other_count, 0)};
+    while (places.one + ROW_NUMBERS <= one_count && places.other + ROW_NUMBERS <= other_count
+           && memcmp(one + places.one, other + places.other, ROW_NUMBERS * sizeof *one) == 0) {
+        places.one = next_unrefused(one, one_count, places.one + ROW_NUMBERS);
+        places.other = next_unrefused(other, other_count, places.other + ROW_NUMBERS);
+    }
+    return places;
+}
+
 bool rows_same_unrefused(const int64_t *one, size_t one_count, const int64_t *other, size_t other_count)
 {
-    size_t place = next_unrefused(one, one_count, 0);
-    size_t other_place = next_unrefused(other, other_count, 0);
-    bool same = one_count % ROW_NUMBERS == 0 && other_count % ROW_NUMBERS == 0;
-    while (same && place < one_count && other_place < other_count) {
-        same = memcmp(one + place, other + other_place, ROW_NUMBERS * sizeof *one) == 0;
-        place = next_unrefused(one, one_count, place + ROW_NUMBERS);
-        other_place = next_unrefused(other, other_count, other_place + ROW_NUMBERS);
-    }
-    return same && place == one_count && other_place == other_count;
+    RowPlaces places = rows_first_difference(one, one_count, other, other_count);
+    return places.one == one_count && places.other == other_count;
 }

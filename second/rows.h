@@ -24,7 +24,13 @@ enum RowKind { ROW_SHIFT = 1, ROW_REFUSED_EVENT = 2, ROW_REFUSED_TABLE = 3, ROW_
    and gives the room. */
 size_t rows_run(const Input *input, int64_t *out, size_t out_length);
 
-/* Whether two answers are the same but for the rows of refused events, which are passed over. */
+/* A place in each of two answers. */
+typedef struct { size_t one; size_t other; } RowPlaces;
+
+/* Where two answers first differ, rows of refused events passed over; both ends where they do not. */
+RowPlaces rows_first_difference(const int64_t *one, size_t one_count, const int64_t *other, size_t other_count);
+
+/* Whether two answers are the same but for the rows of refused events. */
 bool rows_same_unrefused(const int64_t *one, size_t one_count, const int64_t *other, size_t other_count);
 
 #endif
