@@ -234,21 +234,41 @@ static void tell_rows(const Trial *trial)
     print_row("library", &trial->library, place - place % ROW_NUMBERS);
 }
 
+/* The first rows in which an engine's answers without free events and with them differ. */
+static void tell_padded(const char *whose, const Answer *without, const Answer *with)
+{
+    RowPlaces places = rows_first_difference(without->numbers, readable(without), with->numbers, readable(with));
+    if (places.one == readable(without) && places.other == readable(with)) {
+        printf("    %s: no shift or closing row differs, so an added event was refused or a session differs\n", whose);
+        return;
+    }
+    printf("    %s: row %zu without free events, row %zu with them\n", whose, places.one / ROW_NUMBERS + 1,
+           places.other / ROW_NUMBERS + 1);
+    print_row("without", without, places.one);
+    print_row("with", with, places.other);
+}
+
+static void tell_comparison(const Compared *compared, Comparison comparison)
+{
+    const Trial *without = &compared->program_parts;
+    const Trial *with = &compared->padded_parts;
+    printf("  different: %s\n", NAMES[comparison]);
+    switch (comparison) {
+    case COMPARED_ROWS: tell_rows(without); break;
+    case COMPARED_OTHER_PARTS: tell_rows(&compared->other_parts); break;
+    case COMPARED_PADDED_ROWS: tell_rows(with); break;
+    case COMPARED_PADDED_LIBRARY: tell_padded("library", &without->library, &with->library); break;
+    case COMPARED_PADDED_SECOND: tell_padded("second engine", &without->second, &with->second); break;
+    default: break;
+    }
+}
+
 static void tell(const Compared *compared)
 {
     for (int i = 0; i < COMPARISONS; i++) {
         if (compared->differs[i]) {
-            printf("  different: %s\n", NAMES[i]);
+            tell_comparison(compared, (Comparison)i);
         }
-    }
-    if (compared->differs[COMPARED_ROWS]) {
-        tell_rows(&compared->program_parts);
-    }
-    if (compared->differs[COMPARED_OTHER_PARTS]) {
-        tell_rows(&compared->other_parts);
-    }
-    if (compared->differs[COMPARED_PADDED_ROWS]) {
-        tell_rows(&compared->padded_parts);
     }
 }
 
