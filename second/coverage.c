@@ -1,7 +1,8 @@
 /*
  * coverage.c: the program "coverage SEED COUNT". It generates inputs, runs the engine on each, and prints
- * what they brought about. Short sessions are also checked second by second against the slow engine, and all of
- * them with free events added. It fails at any difference, and where too few inputs let an added event show.
+ * what they brought about. Short sessions are also checked second by second against the slow engine. Every input
+ * is also run with free events added (padded.h). It fails at any difference, and where too few inputs let an added
+ * event show.
  */
 #include "corridor.h"
 #include "draft.h"

@@ -173,7 +173,8 @@ static void run_buffers(sundewcup_session *session, const Input *input, Random *
 /* ---- With free events ---- */
 
 /* Takes the events one by one in two sessions of the same table, the added ones in one of them only. After an event that was
-   not added and is accepted no number of the two may differ; after a refused one the clocks may. */
+   not added and is accepted no number of the two may differ. After a refused one they may: an added event before it may have
+   moved the clock and served holds. */
 static void step_padded(sundewcup_session *plain, sundewcup_session *with, const Padded *padded)
 {
     static Answer plain_answer;

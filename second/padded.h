@@ -17,7 +17,7 @@ enum {
     LONGEST_PADDED = LONGEST_INPUT + MOST_ADDED_EVENTS * EVENT_BYTES
 };
 
-/* Every event but a last one that is cut short has its 20 bytes, so that places count in those. */
+/* An event's place is its offset divided by 20, since each has 20 bytes, but for a last one that is cut short. */
 typedef struct {
     size_t length;
     uint8_t bytes[LONGEST_PADDED];

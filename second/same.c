@@ -58,8 +58,8 @@ static bool same_holds(const Session *one, const Session *other, uint32_t index)
         && one->due[SIDE_DOWN][index].seconds == other->due[SIDE_DOWN][index].seconds;
 }
 
-/* No part of what stands, and so not compared: earliest_due, a bound that is too early from where a hold ends to where the
-   engine looks again; and the places past the last line. */
+/* No part of what stands, and so not compared: earliest_due, a bound which may be too early after a hold has ended; and the
+   places past the last line. */
 bool same_session(const Session *one, const Session *other)
 {
     bool same = same_head(one, other);
