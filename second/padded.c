@@ -33,20 +33,15 @@ static uint32_t choose_line(Random *random, const Session *session)
     return index;
 }
 
+/* Any time where the one chosen is not allowed: the line may have no hold, or one that falls due after the later event. */
 static uint32_t choose_time(Random *random, const Session *session, uint32_t index, uint32_t later)
 {
     uint32_t clock = session->clock.seconds;
-    int64_t time = due_of_line(session, index);
-    switch (between(random, 0, 5)) {
-    case 0: time = clock; break;
-    case 1: time = later; break;
-    case 2:
-    case 3: break;
-    case 4: time += chance(random, 50) ? 1 : -1; break;
-    default: time = between(random, clock, later); break;
-    }
-    /* The line may have no hold, or one that falls due after the later event. */
-    return clock <= time && time <= later ? (uint32_t)time : count_between(random, clock, later);
+    int64_t due = due_of_line(session, index);
+    uint32_t any = count_between(random, clock, later);
+    const int64_t times[] = {clock, later, due - 1, due, due, due + 1, any};
+    int64_t time = times[between(random, 0, sizeof times / sizeof times[0] - 1)];
+    return clock <= time && time <= later ? (uint32_t)time : any;
 }
 
 static EventDraft repeated_quote(const Line *line, uint32_t time)
@@ -67,17 +62,14 @@ static EventDraft make_free_event(Random *random, const Session *session, uint32
 /* For each of the events, when the first accepted one from there on comes; NEVER where none does. */
 static void find_later(const Input *input, Session session, Seconds later[MOST_OWN_EVENTS])
 {
-    size_t count = 0;
+    size_t first_unknown = 0;
     for (size_t start = 0; start < input->events_length; start += EVENT_BYTES) {
+        size_t place = start / EVENT_BYTES;
         EventAnswer answer;
-        const uint8_t *bytes = input->events + start;
-        corridor_event(&session, bytes, input_event_length(input->events_length - start), &answer);
-        later[count] = answer.kind == ACCEPTED ? (Seconds){draft_read_event(bytes).fields[EVENT_TIME]} : NEVER;
-        count++;
-    }
-    for (size_t i = count; i > 1; i--) {
-        if (later[i - 2].seconds == NEVER.seconds) {
-            later[i - 2] = later[i - 1];
+        corridor_event(&session, input->events + start, input_event_length(input->events_length - start), &answer);
+        later[place] = NEVER;
+        for (; answer.kind == ACCEPTED && first_unknown <= place; first_unknown++) {
+            later[first_unknown] = session.clock;
         }
     }
 }
@@ -104,24 +96,6 @@ static void put_free_event(Padded *padded, Session *session, Random *random, Sec
     put(padded, session, bytes, draft_write_event(&event, bytes), true);
 }
 
-/* Some inputs get few free events, so that one alone shows, and some get several at one place. */
-static void pad_session(const Input *input, Random *random, Session *session, Padded *padded)
-{
-    static const int64_t densities[] = {3, 15, 35, 50};
-    Seconds later[MOST_OWN_EVENTS];
-    int64_t percent = densities[between(random, 0, 3)];
-    int left = MOST_ADDED_EVENTS;
-    find_later(input, *session, later);
-    for (size_t start = 0; start < input->events_length; start += EVENT_BYTES) {
-        Seconds next = later[start / EVENT_BYTES];
-        while (left > 0 && has_place(session, next) && chance(random, percent)) {
-            put_free_event(padded, session, random, next);
-            left--;
-        }
-        put(padded, session, input->events + start, input_event_length(input->events_length - start), false);
-    }
-}
-
 static Random random_of(const Input *input)
 {
     Random random = {0};
@@ -130,16 +104,33 @@ static Random random_of(const Input *input)
     return random;
 }
 
+/* Some inputs get few free events, so that one alone shows, and some get several at one place. */
+static void pad_session(const Input *input, Session *session, Padded *padded)
+{
+    static const int64_t densities[] = {3, 15, 35, 50};
+    Seconds later[MOST_OWN_EVENTS];
+    Random random = random_of(input);
+    int64_t percent = densities[between(&random, 0, 3)];
+    int left = MOST_ADDED_EVENTS;
+    find_later(input, *session, later);
+    for (size_t start = 0; start < input->events_length; start += EVENT_BYTES) {
+        Seconds next = later[start / EVENT_BYTES];
+        while (left > 0 && has_place(session, next) && chance(&random, percent)) {
+            put_free_event(padded, session, &random, next);
+            left--;
+        }
+        put(padded, session, input->events + start, input_event_length(input->events_length - start), false);
+    }
+}
+
 void pad(const Input *input, Padded *padded)
 {
     Session session;
-    Random random = random_of(input);
-    padded->length = 0;
+    *padded = (Padded){0};
     if (corridor_open(input->table, input->table_length, &session).kind == ACCEPTED) {
-        pad_session(input, &random, &session, padded);
+        pad_session(input, &session, padded);
     } else {
         memcpy(padded->bytes, input->events, input->events_length);
-        memset(padded->added, false, sizeof padded->added);
         padded->length = input->events_length;
     }
 }
@@ -151,7 +142,7 @@ Input padded_input(const Input *input, const Padded *padded)
 
 /* ---- With and without ---- */
 
-/* A session and all its shift lines, joined. It makes no more of them than fit. */
+/* A session and all its shift lines, joined. No session makes more of them than fit. */
 typedef struct {
     Session session;
     uint32_t count;
