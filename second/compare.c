@@ -1,6 +1,6 @@
 /*
  * compare.c: the program "compare". It gives the same inputs to this engine and to the proved one, which is
- * linked as a library, and holds their answers together. It also adds free events to each input (padded.h) and
+ * linked as a library, and holds their answers together. It also adds free events to each input (thickened.h) and
  * holds each engine to its own answers without them.
  *
  *   compare gate FILE..   generated inputs of a fixed seed, and then the files. Fails at any difference, and
@@ -10,11 +10,11 @@
  * What is tried on an input depends on its bytes alone, so that a kept one shows its difference again.
  */
 #include "generate.h"
-#include "padded.h"
 #include "random.h"
 #include "rows.h"
 #include "tally.h"
 #include "text.h"
+#include "thickened.h"
 
 #include "sundewcup.h"
 
@@ -28,7 +28,7 @@ enum {
     GATE_EVENTS = 2000000,
     GATE_INPUTS_FOR_EACH_COUNT = 100,
     PROGRESS_INPUTS = 20000,
-    MOST_NUMBERS = ROWS_ROOM(LONGEST_PADDED),
+    MOST_NUMBERS = ROWS_ROOM(LONGEST_THICKENED),
     GUARD_NUMBERS = 64
 };
 
@@ -40,9 +40,9 @@ typedef enum {
     COMPARED_PAST_ROWS,
     COMPARED_SHORT_ROOM,
     COMPARED_OTHER_PARTS,
-    COMPARED_PADDED_ROWS,
-    COMPARED_PADDED_LIBRARY,
-    COMPARED_PADDED_SECOND,
+    COMPARED_THICKENED_ROWS,
+    COMPARED_THICKENED_LIBRARY,
+    COMPARED_THICKENED_SECOND,
     COMPARED_INPUT,
     COMPARISONS
 } Comparison;
@@ -53,9 +53,9 @@ static const char *const NAMES[COMPARISONS] = {
     [COMPARED_PAST_ROWS] = "numbers past the rows untouched",
     [COMPARED_SHORT_ROOM] = "too little room said, nothing written",
     [COMPARED_OTHER_PARTS] = "rows where the table ends elsewhere",
-    [COMPARED_PADDED_ROWS] = "rows with free events added",
-    [COMPARED_PADDED_LIBRARY] = "shift and closing rows with and without free events",
-    [COMPARED_PADDED_SECOND] = "second engine's shift lines and session with and without free events",
+    [COMPARED_THICKENED_ROWS] = "rows with free events added",
+    [COMPARED_THICKENED_LIBRARY] = "shift and closing rows with and without free events",
+    [COMPARED_THICKENED_SECOND] = "second engine's shift lines and session with and without free events",
     [COMPARED_INPUT] = "input untouched",
 };
 
@@ -77,8 +77,8 @@ typedef struct {
 typedef struct {
     Trial program_parts;
     Trial other_parts;
-    Trial padded_parts;
-    Padded padded;
+    Trial thickened_parts;
+    Thickened thickened;
     bool differs[COMPARISONS];
     Tally tally;
 } Compared;
@@ -168,18 +168,18 @@ static Input other_parts(const uint8_t *bytes, size_t length, Random *random)
 
 /* Tries the input with free events added. With other parts there is nothing to add to: a table opens there only where they
    happen to be the program's. */
-static void compare_padded(Compared *compared, const Input *input)
+static void compare_thickened(Compared *compared, const Input *input)
 {
     const Answer *without = &compared->program_parts.library;
-    Trial *trial = &compared->padded_parts;
+    Trial *trial = &compared->thickened_parts;
     const Answer *with = &trial->library;
-    Padded *padded = &compared->padded;
-    pad(input, padded);
-    run_both(trial, padded_input(input, padded), MOST_NUMBERS);
-    compared->differs[COMPARED_PADDED_ROWS] = !same_rows(trial) || !untouched_from(with, with->count);
-    compared->differs[COMPARED_PADDED_LIBRARY]
+    Thickened *thickened = &compared->thickened;
+    thicken(input, thickened);
+    run_both(trial, thickened_input(input, thickened), MOST_NUMBERS);
+    compared->differs[COMPARED_THICKENED_ROWS] = !same_rows(trial) || !untouched_from(with, with->count);
+    compared->differs[COMPARED_THICKENED_LIBRARY]
         = !rows_same_unrefused(without->numbers, readable(without), with->numbers, readable(with));
-    compared->differs[COMPARED_PADDED_SECOND] = !padded_agrees(input, padded, &compared->tally);
+    compared->differs[COMPARED_THICKENED_SECOND] = !thickened_agrees(input, thickened, &compared->tally);
 }
 
 /* Tries all on one input; says whether there was no difference. */
@@ -202,7 +202,7 @@ static bool compare(Compared *compared, const uint8_t *bytes, size_t length)
     differs[COMPARED_SHORT_ROOM] = !refuses_short_room(&input);
     differs[COMPARED_OTHER_PARTS] = !same_rows(other) || !untouched_from(&other->library, other->library.count);
     compared->tally = tally_input(&input);
-    compare_padded(compared, &input);
+    compare_thickened(compared, &input);
     differs[COMPARED_INPUT] = memcmp(before, bytes, length) != 0;
     bool alike = true;
     for (int i = 0; i < COMPARISONS; i++) {
@@ -235,7 +235,7 @@ static void tell_rows(const Trial *trial)
 }
 
 /* The first rows in which an engine's answers without free events and with them differ. */
-static void tell_padded(const char *whose, const Answer *without, const Answer *with)
+static void tell_thickened(const char *whose, const Answer *without, const Answer *with)
 {
     RowPlaces places = rows_first_difference(without->numbers, readable(without), with->numbers, readable(with));
     if (places.one == readable(without) && places.other == readable(with)) {
@@ -251,14 +251,14 @@ static void tell_padded(const char *whose, const Answer *without, const Answer *
 static void tell_comparison(const Compared *compared, Comparison comparison)
 {
     const Trial *without = &compared->program_parts;
-    const Trial *with = &compared->padded_parts;
+    const Trial *with = &compared->thickened_parts;
     printf("  different: %s\n", NAMES[comparison]);
     switch (comparison) {
     case COMPARED_ROWS: tell_rows(without); break;
     case COMPARED_OTHER_PARTS: tell_rows(&compared->other_parts); break;
-    case COMPARED_PADDED_ROWS: tell_rows(with); break;
-    case COMPARED_PADDED_LIBRARY: tell_padded("library", &without->library, &with->library); break;
-    case COMPARED_PADDED_SECOND: tell_padded("second engine", &without->second, &with->second); break;
+    case COMPARED_THICKENED_ROWS: tell_rows(with); break;
+    case COMPARED_THICKENED_LIBRARY: tell_thickened("library", &without->library, &with->library); break;
+    case COMPARED_THICKENED_SECOND: tell_thickened("second engine", &without->second, &with->second); break;
     default: break;
     }
 }

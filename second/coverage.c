@@ -1,16 +1,16 @@
 /*
  * coverage.c: the program "coverage SEED COUNT". It generates inputs, runs the engine on each, and prints
  * what they brought about. Short sessions are also checked second by second against the slow engine. Every input
- * is also run with free events added (padded.h). It fails at any difference, and where too few inputs let an added
+ * is also run with free events added (thickened.h). It fails at any difference, and where too few inputs let an added
  * event show.
  */
 #include "corridor.h"
 #include "draft.h"
 #include "generate.h"
-#include "padded.h"
 #include "same.h"
 #include "slow.h"
 #include "tally.h"
+#include "thickened.h"
 
 #include <inttypes.h>
 #include <stdio.h>
@@ -52,8 +52,8 @@ typedef struct {
     TallyTotal total;
     uint64_t slow;
     uint64_t slow_different;
-    uint64_t padded;
-    uint64_t padded_different;
+    uint64_t thickened;
+    uint64_t thickened_different;
 } Result;
 
 static void take_slowly(Result *result, const Input *input, uint64_t number)
@@ -70,13 +70,13 @@ static void take_slowly(Result *result, const Input *input, uint64_t number)
     }
 }
 
-static void take_padded(Result *result, const Input *input, uint64_t number, Tally *tally)
+static void take_thickened(Result *result, const Input *input, uint64_t number, Tally *tally)
 {
-    static Padded padded;
-    pad(input, &padded);
-    result->padded += padded.length > input->events_length;
-    if (!padded_agrees(input, &padded, tally)) {
-        result->padded_different++;
+    static Thickened thickened;
+    thicken(input, &thickened);
+    result->thickened += thickened.length > input->events_length;
+    if (!thickened_agrees(input, &thickened, tally)) {
+        result->thickened_different++;
         printf("input %" PRIu64 " differs with free events added\n", number);
     }
 }
@@ -85,9 +85,10 @@ static void take_padded(Result *result, const Input *input, uint64_t number, Tal
 static bool judge(const Result *result, uint64_t count)
 {
     printf("%" PRIu64 " compared second by second, %" PRIu64 " different\n", result->slow, result->slow_different);
-    printf("%" PRIu64 " compared with free events added, %" PRIu64 " different\n", result->padded, result->padded_different);
+    printf("%" PRIu64 " compared with free events added, %" PRIu64 " different\n", result->thickened,
+           result->thickened_different);
     bool enough = tally_enough(&result->total, TALLY_FIRST_ADDED, count / 100) == TALLY_COUNTS - TALLY_FIRST_ADDED;
-    return enough && result->slow_different == 0 && result->padded_different == 0;
+    return enough && result->slow_different == 0 && result->thickened_different == 0;
 }
 
 int main(int argument_count, char **arguments)
@@ -104,7 +105,7 @@ int main(int argument_count, char **arguments)
         Input input = input_of(bytes, generate_input(seed, number, bytes));
         Tally one = tally_input(&input);
         take_slowly(&result, &input, number);
-        take_padded(&result, &input, number, &one);
+        take_thickened(&result, &input, number, &one);
         tally_add(&result.total, &one);
     }
     tally_print(&result.total, TALLY_FIRST);

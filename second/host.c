@@ -1,17 +1,17 @@
 /*
  * host.c: the program "host". It gives the same inputs to this engine and to the proved one as a host in C has it: a
  * session in memory of its own, one event after another, damaged at the end. It also adds free events to each input
- * (padded.h), which have to leave every number of that memory as it is without them. It fails at any difference, and
+ * (thickened.h), which have to leave every number of that memory as it is without them. It fails at any difference, and
  * where too few inputs let an added event show.
  *
  *   host FILE..     generated inputs of a fixed seed, and then the files
  */
 #include "generate.h"
-#include "padded.h"
 #include "random.h"
 #include "rows.h"
 #include "tally.h"
 #include "text.h"
+#include "thickened.h"
 
 #include "sundewcup_host.h"
 
@@ -20,7 +20,7 @@
 #include <stdlib.h>
 #include <string.h>
 
-enum { INPUTS = 3000, INPUTS_FOR_EACH_COUNT = 100, MOST_NUMBERS = ROWS_ROOM(LONGEST_PADDED) };
+enum { INPUTS = 3000, INPUTS_FOR_EACH_COUNT = 100, MOST_NUMBERS = ROWS_ROOM(LONGEST_THICKENED) };
 
 static const uint64_t SEED = 3;
 
@@ -33,9 +33,9 @@ typedef enum {
     COMPARED_QUESTIONS,
     COMPARED_REPORTS,
     COMPARED_UNCHECKED,
-    COMPARED_PADDED_EVENTS,
-    COMPARED_PADDED_FEED,
-    COMPARED_PADDED_SECOND,
+    COMPARED_THICKENED_EVENTS,
+    COMPARED_THICKENED_FEED,
+    COMPARED_THICKENED_SECOND,
     COMPARED_DAMAGE,
     COMPARISONS
 } Comparison;
@@ -49,9 +49,9 @@ static const char *const NAMES[COMPARISONS] = {
     [COMPARED_QUESTIONS] = "limits and places as the closing rows say",
     [COMPARED_REPORTS] = "all that stands on a line",
     [COMPARED_UNCHECKED] = "the same without the test of the memory",
-    [COMPARED_PADDED_EVENTS] = "shifts and memory with and without free events, event by event",
-    [COMPARED_PADDED_FEED] = "shifts and memory with and without free events, in buffers",
-    [COMPARED_PADDED_SECOND] = "second engine's shift lines and session with and without free events",
+    [COMPARED_THICKENED_EVENTS] = "shifts and memory with and without free events, event by event",
+    [COMPARED_THICKENED_FEED] = "shifts and memory with and without free events, in buffers",
+    [COMPARED_THICKENED_SECOND] = "second engine's shift lines and session with and without free events",
     [COMPARED_DAMAGE] = "damaged memory refused, and left as it was",
 };
 
@@ -175,49 +175,49 @@ static void run_buffers(sundewcup_session *session, const Input *input, Random *
 /* Takes the events one by one in two sessions of the same table, the added ones in one of them only. After an event that was
    not added and is accepted no number of the two may differ. After a refused one they may: an added event before it may have
    moved the clock and served holds. */
-static void step_padded(sundewcup_session *plain, sundewcup_session *with, const Padded *padded)
+static void step_thickened(sundewcup_session *plain, sundewcup_session *with, const Thickened *thickened)
 {
     static Answer plain_answer;
     static Answer answer;
     plain_answer.count = 0;
     answer.count = 0;
-    for (size_t at = 0; at < padded->length; at += EVENT_BYTES) {
-        size_t length = input_event_length(padded->length - at);
-        bool accepted = take_event(with, padded->bytes + at, length, &answer);
-        if (padded->added[at / EVENT_BYTES]) {
-            expect(COMPARED_PADDED_EVENTS, accepted);
+    for (size_t at = 0; at < thickened->length; at += EVENT_BYTES) {
+        size_t length = input_event_length(thickened->length - at);
+        bool accepted = take_event(with, thickened->bytes + at, length, &answer);
+        if (thickened->added[at / EVENT_BYTES]) {
+            expect(COMPARED_THICKENED_EVENTS, accepted);
         } else {
-            expect(COMPARED_PADDED_EVENTS, accepted == take_event(plain, padded->bytes + at, length, &plain_answer));
-            expect(COMPARED_PADDED_EVENTS, !accepted || same(plain, with));
+            expect(COMPARED_THICKENED_EVENTS, accepted == take_event(plain, thickened->bytes + at, length, &plain_answer));
+            expect(COMPARED_THICKENED_EVENTS, !accepted || same(plain, with));
         }
     }
-    expect(COMPARED_PADDED_EVENTS, same(plain, with));
-    expect(COMPARED_PADDED_EVENTS,
+    expect(COMPARED_THICKENED_EVENTS, same(plain, with));
+    expect(COMPARED_THICKENED_EVENTS,
            rows_same_unrefused(plain_answer.numbers, plain_answer.count, answer.numbers, answer.count));
 }
 
 static TallyTotal total;
 
 /* The end and the answer are those of the input without free events. */
-static void take_padded(const Input *input, const sundewcup_session *end, const Answer *plain_answer, Random *random)
+static void take_thickened(const Input *input, const sundewcup_session *end, const Answer *plain_answer, Random *random)
 {
-    static Padded padded;
+    static Thickened thickened;
     static Answer answer;
     int64_t line;
     Tally tally = {{0}};
-    pad(input, &padded);
-    expect(COMPARED_PADDED_SECOND, padded_agrees(input, &padded, &tally));
+    thicken(input, &thickened);
+    expect(COMPARED_THICKENED_SECOND, thickened_agrees(input, &thickened, &tally));
     tally_add(&total, &tally);
     sundewcup_session *plain = make_session();
     sundewcup_session *with = make_session();
     if (sundewcup_open(plain, input->table, input->table_length, &line) == 0) {
-        Input with_added = padded_input(input, &padded);
+        Input with_added = thickened_input(input, &thickened);
         *with = *plain;
-        step_padded(plain, with, &padded);
-        expect(COMPARED_PADDED_EVENTS, same(end, with));
+        step_thickened(plain, with, &thickened);
+        expect(COMPARED_THICKENED_EVENTS, same(end, with));
         run_buffers(with, &with_added, random, &answer);
-        expect(COMPARED_PADDED_FEED, same(end, with));
-        expect(COMPARED_PADDED_FEED,
+        expect(COMPARED_THICKENED_FEED, same(end, with));
+        expect(COMPARED_THICKENED_FEED,
                rows_same_unrefused(plain_answer->numbers, plain_answer->count, answer.numbers, answer.count));
     }
     free(plain);
@@ -363,7 +363,7 @@ static void take(const uint8_t *bytes, size_t length, uint64_t number)
         expect(COMPARED_FEED, second.count == buffers.count && memcmp(second.numbers, buffers.numbers, size) == 0);
     }
     expect(COMPARED_FEED, same(one, other));
-    take_padded(&input, one, &events, &random);
+    take_thickened(&input, one, &events, &random);
     ask_all(one, &events);
     ask_reports(one, &input);
     expect(COMPARED_DAMAGE, sundewcup_check(one) == 0);

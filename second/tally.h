@@ -31,7 +31,7 @@ typedef enum {
     TALLY_ZERO_INSIDE,
     TALLY_BEYOND_32_BITS,
     TALLY_CUT_EVENT,
-    /* From here on what free events bring about where they are added to the input (padded.h). */
+    /* From here on what free events bring about where they are added to the input (thickened.h). */
     TALLY_FIRST_ADDED,
     TALLY_TICKS_ADDED = TALLY_FIRST_ADDED,
     TALLY_QUOTES_REPEATED,

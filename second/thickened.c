@@ -1,9 +1,9 @@
 /*
- * padded.c: puts free events into an input. It follows the session with the engine, so that they stand where a wrong
+ * thickened.c: puts free events into an input. It follows the session with the engine, so that they stand where a wrong
  * engine would show: repeated quotes on lines with a hold, times at both ends of what is allowed, at due seconds and one
  * second to either side of them.
  */
-#include "padded.h"
+#include "thickened.h"
 
 #include "draft.h"
 #include "random.h"
@@ -57,7 +57,7 @@ static EventDraft make_free_event(Random *random, const Session *session, uint32
     return chance(random, 35) ? draft_tick(time) : repeated_quote(&session->lines[index], time);
 }
 
-/* ---- Padding ---- */
+/* ---- Thickening ---- */
 
 /* For each of the events, when the first accepted one from there on comes; NEVER where none does. */
 static void find_later(const Input *input, Session session, Seconds later[MOST_OWN_EVENTS])
@@ -74,13 +74,13 @@ static void find_later(const Input *input, Session session, Seconds later[MOST_O
     }
 }
 
-static void put(Padded *padded, Session *session, const uint8_t *bytes, size_t length, bool added)
+static void put(Thickened *thickened, Session *session, const uint8_t *bytes, size_t length, bool added)
 {
     EventAnswer answer;
     corridor_event(session, bytes, length, &answer);
-    memcpy(padded->bytes + padded->length, bytes, length);
-    padded->added[padded->length / EVENT_BYTES] = added;
-    padded->length += length;
+    memcpy(thickened->bytes + thickened->length, bytes, length);
+    thickened->added[thickened->length / EVENT_BYTES] = added;
+    thickened->length += length;
 }
 
 /* Only a wrong engine's clock can be past the later event; that is for the comparison to tell. */
@@ -89,11 +89,11 @@ static bool has_place(const Session *session, Seconds later)
     return later.seconds != NEVER.seconds && session->clock.seconds <= later.seconds;
 }
 
-static void put_free_event(Padded *padded, Session *session, Random *random, Seconds later)
+static void put_free_event(Thickened *thickened, Session *session, Random *random, Seconds later)
 {
     uint8_t bytes[EVENT_BYTES];
     EventDraft event = make_free_event(random, session, later.seconds);
-    put(padded, session, bytes, draft_write_event(&event, bytes), true);
+    put(thickened, session, bytes, draft_write_event(&event, bytes), true);
 }
 
 static Random random_of(const Input *input)
@@ -105,7 +105,7 @@ static Random random_of(const Input *input)
 }
 
 /* Some inputs get few free events, so that one alone shows, and some get several at one place. */
-static void pad_session(const Input *input, Session *session, Padded *padded)
+static void thicken_session(const Input *input, Session *session, Thickened *thickened)
 {
     static const int64_t densities[] = {3, 15, 35, 50};
     Seconds later[MOST_OWN_EVENTS];
@@ -116,28 +116,28 @@ static void pad_session(const Input *input, Session *session, Padded *padded)
     for (size_t start = 0; start < input->events_length; start += EVENT_BYTES) {
         Seconds next = later[start / EVENT_BYTES];
         while (left > 0 && has_place(session, next) && chance(&random, percent)) {
-            put_free_event(padded, session, &random, next);
+            put_free_event(thickened, session, &random, next);
             left--;
         }
-        put(padded, session, input->events + start, input_event_length(input->events_length - start), false);
+        put(thickened, session, input->events + start, input_event_length(input->events_length - start), false);
     }
 }
 
-void pad(const Input *input, Padded *padded)
+void thicken(const Input *input, Thickened *thickened)
 {
     Session session;
-    *padded = (Padded){0};
+    *thickened = (Thickened){0};
     if (corridor_open(input->table, input->table_length, &session).kind == ACCEPTED) {
-        pad_session(input, &session, padded);
+        thicken_session(input, &session, thickened);
     } else {
-        memcpy(padded->bytes, input->events, input->events_length);
-        padded->length = input->events_length;
+        memcpy(thickened->bytes, input->events, input->events_length);
+        thickened->length = input->events_length;
     }
 }
 
-Input padded_input(const Input *input, const Padded *padded)
+Input thickened_input(const Input *input, const Thickened *thickened)
 {
-    return (Input){input->table, input->table_length, padded->bytes, padded->length};
+    return (Input){input->table, input->table_length, thickened->bytes, thickened->length};
 }
 
 /* ---- With and without ---- */
@@ -152,7 +152,7 @@ typedef struct {
 /* The engine without the added events and with them, and how the input's own events have fared. */
 typedef struct {
     Run plain;
-    Run padded;
+    Run thickened;
     bool any_accepted;
     bool last_refused;
 } Runs;
@@ -191,19 +191,19 @@ static void count_repeat(Tally *tally, const Session *session, const EventDraft 
     tally->times[TALLY_REPEATED_AT_SHIFT] += shift_now;
 }
 
-/* An added event, which only the padded run takes; says whether it was accepted. */
+/* An added event, which only the thickened run takes; says whether it was accepted. */
 static bool take_added(Runs *runs, const uint8_t *bytes, Tally *tally)
 {
     EventAnswer answer;
     EventDraft event = draft_read_event(bytes);
-    take(&runs->padded, bytes, EVENT_BYTES, &answer);
+    take(&runs->thickened, bytes, EVENT_BYTES, &answer);
     if (answer.kind == REFUSED) {
         return false;
     }
     if (event.fields[EVENT_FLAGS] == FLAG_TICK) {
         tally->times[TALLY_TICKS_ADDED]++;
     } else {
-        count_repeat(tally, &runs->padded.session, &event, &answer);
+        count_repeat(tally, &runs->thickened.session, &event, &answer);
     }
     tally->times[TALLY_ADDED_REPORTS_SHIFT] += answer.shift_count > 0;
     tally->times[TALLY_ADDED_BEFORE_ACCEPTED] += !runs->any_accepted;
@@ -215,28 +215,28 @@ static bool take_added(Runs *runs, const uint8_t *bytes, Tally *tally)
 static bool take_own(Runs *runs, const uint8_t *bytes, size_t length, Tally *tally)
 {
     EventAnswer plain;
-    EventAnswer padded;
+    EventAnswer thickened;
     take(&runs->plain, bytes, length, &plain);
-    take(&runs->padded, bytes, length, &padded);
+    take(&runs->thickened, bytes, length, &thickened);
     runs->last_refused = plain.kind == REFUSED;
     runs->any_accepted = runs->any_accepted || plain.kind == ACCEPTED;
-    if (plain.kind == REFUSED && padded.kind == REFUSED) {
-        tally->times[TALLY_OTHER_REFUSAL] += plain.reason != padded.reason;
+    if (plain.kind == REFUSED && thickened.kind == REFUSED) {
+        tally->times[TALLY_OTHER_REFUSAL] += plain.reason != thickened.reason;
         return true;
     }
-    return plain.kind == padded.kind && same_run(&runs->plain, &runs->padded);
+    return plain.kind == thickened.kind && same_run(&runs->plain, &runs->thickened);
 }
 
 /* Whether the events that were not added are the input's own, one after another. */
-static bool own_events_kept(const Input *input, const Padded *padded)
+static bool own_events_kept(const Input *input, const Thickened *thickened)
 {
     size_t kept = 0;
-    for (size_t start = 0; start < padded->length; start += EVENT_BYTES) {
-        size_t length = input_event_length(padded->length - start);
-        if (padded->added[start / EVENT_BYTES]) {
+    for (size_t start = 0; start < thickened->length; start += EVENT_BYTES) {
+        size_t length = input_event_length(thickened->length - start);
+        if (thickened->added[start / EVENT_BYTES]) {
             continue;
         }
-        if (length > input->events_length - kept || memcmp(padded->bytes + start, input->events + kept, length) != 0) {
+        if (length > input->events_length - kept || memcmp(thickened->bytes + start, input->events + kept, length) != 0) {
             return false;
         }
         kept += length;
@@ -244,19 +244,19 @@ static bool own_events_kept(const Input *input, const Padded *padded)
     return kept == input->events_length;
 }
 
-bool padded_agrees(const Input *input, const Padded *padded, Tally *tally)
+bool thickened_agrees(const Input *input, const Thickened *thickened, Tally *tally)
 {
     Runs runs = {0};
-    bool agrees = own_events_kept(input, padded);
+    bool agrees = own_events_kept(input, thickened);
     if (corridor_open(input->table, input->table_length, &runs.plain.session).kind == REFUSED) {
-        return agrees && padded->length == input->events_length;
+        return agrees && thickened->length == input->events_length;
     }
-    runs.padded.session = runs.plain.session;
-    for (size_t start = 0; agrees && start < padded->length; start += EVENT_BYTES) {
-        const uint8_t *bytes = padded->bytes + start;
-        size_t length = input_event_length(padded->length - start);
-        agrees = padded->added[start / EVENT_BYTES] ? take_added(&runs, bytes, tally)
+    runs.thickened.session = runs.plain.session;
+    for (size_t start = 0; agrees && start < thickened->length; start += EVENT_BYTES) {
+        const uint8_t *bytes = thickened->bytes + start;
+        size_t length = input_event_length(thickened->length - start);
+        agrees = thickened->added[start / EVENT_BYTES] ? take_added(&runs, bytes, tally)
                                                     : take_own(&runs, bytes, length, tally);
     }
-    return agrees && same_run(&runs.plain, &runs.padded);
+    return agrees && same_run(&runs.plain, &runs.thickened);
 }

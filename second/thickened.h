@@ -1,0 +1,39 @@
+/*
+ * thickened.h: the events of an input with free events put between them; the method's word for the way back is thinned. A
+ * free event is a tick, or a quote that repeats the standing bid and ask of its contract (an empty one on an empty book too),
+ * at a time from the clock to that of the next accepted event. It leaves all shift lines, joined over the events, and the
+ * session after that next event as they are without it. Where no accepted event follows, nothing is claimed, and none is put.
+ */
+#ifndef THICKENED_H
+#define THICKENED_H
+
+#include "generate.h"
+#include "input.h"
+#include "tally.h"
+
+enum {
+    MOST_ADDED_EVENTS = MOST_EVENTS,
+    MOST_OWN_EVENTS = (LONGEST_INPUT + EVENT_BYTES - 1) / EVENT_BYTES,
+    LONGEST_THICKENED = LONGEST_INPUT + MOST_ADDED_EVENTS * EVENT_BYTES
+};
+
+/* An event's place is its offset divided by 20, since each has 20 bytes, but for a last one that is cut short. */
+typedef struct {
+    size_t length;
+    uint8_t bytes[LONGEST_THICKENED];
+    bool added[MOST_OWN_EVENTS + MOST_ADDED_EVENTS];
+} Thickened;
+
+/* Thickens the events of an input that is no longer than a generated one. A refused table accepts none, and gets none. What is
+   put depends on the input alone, so that a kept input is thickened as it was. */
+void thicken(const Input *input, Thickened *thickened);
+
+/* The input with the thickened events in place of its own. */
+Input thickened_input(const Input *input, const Thickened *thickened);
+
+/* Whether the added events are free on this engine: each is accepted; of the input's own events the same ones are accepted;
+   after each of these the session and the joined shift lines are the same as without the added ones. Refused events may be
+   refused with another number, since the clock may have gone on. Counts what the added events brought about. */
+bool thickened_agrees(const Input *input, const Thickened *thickened, Tally *tally);
+
+#endif
