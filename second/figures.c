@@ -1,6 +1,6 @@
 /*
  * figures.c: runs every figure of the paper and every decided example, and compares with the answers stated
- * there. The labels A1 to B11 are those of docs/DECISIONS.md. Whole inputs are run on the engine of engine.h,
+ * there. The labels A1 to D11 are those of docs/DECISIONS.md. Whole inputs are run on the engine of engine.h,
  * this one or the proved one; what only a look inside shows is checked of this one.
  */
 #include "corridor.h"
@@ -915,6 +915,41 @@ static void readings_of_frozen_lines(void)
     check_events("B11 55 presses", &course, "260 U 7\n", EVENTS(draft_bid(200, 7, 55), draft_tick(260)));
 }
 
+/* ---- Readings D ---- */
+
+/* A tick or a repeated quote changes nothing, unless it comes last or is later than the next event. */
+static void readings_of_free_events(void)
+{
+    TableDraft draft = sample();
+    draft.header[HEADER_MOST_SHIFTS] = 16;
+    const char *expected = "70 U 7\n7 950 1100 900 1150\n";
+    check_program("D8 quotes alone", &draft, 0, expected, EVENTS(draft_bid(10, 7, 1046), draft_empty(90, 7)));
+    check_program("D8 with ticks and repeated quotes", &draft, 0, expected,
+                  EVENTS(draft_empty(5, 7), draft_bid(10, 7, 1046), draft_tick(30), draft_bid(40, 7, 1046),
+                         draft_bid(70, 7, 1046), draft_tick(80), draft_empty(90, 7)));
+
+    Course course = started(&draft);
+    check_events("D8 no event after the bid", &course, "", EVENTS(draft_bid(10, 7, 1046)));
+    check_events("D8 a tick as the last event", &course, "70 U 7\n", EVENTS(draft_tick(70)));
+    check_events("D8 a late bid after the tick", &course, "R 11\n",
+                 EVENTS(draft_bid(50, 7, 1000), draft_empty(90, 7)));
+    check_session("D8 the same bid without the tick", &draft, "",
+                  EVENTS(draft_bid(10, 7, 1046), draft_bid(50, 7, 1000), draft_empty(90, 7)));
+}
+
+/* The last line of each would be missing if the second quote with bid 1046 were taken for a repeat. */
+static void readings_of_repeats(void)
+{
+    TableDraft draft = sample_of_two();
+    check_session("D11 the same bid for contract 8", &draft, "100 U 8\n",
+                  EVENTS(draft_bid(10, 7, 1046), draft_bid(40, 8, 1046), draft_empty(50, 7), draft_tick(100)));
+    /* Near share one half: the zone is 50, then 75, 100, 125, and the ask lies 110 above the lower limit. */
+    draft.header[HEADER_NEAR_SHARE] = 500000;
+    check_session("D11 an ask beside the same bid", &draft, "70 U 7\n130 U 7\n190 U 8\n250 D 7\n",
+                  EVENTS(draft_bid(10, 7, 1046), draft_bid(10, 8, 1060), draft_quote(20, 7, 1046, 1060),
+                         draft_tick(250)));
+}
+
 int main(void)
 {
     figures_of_divisions();
@@ -947,6 +982,8 @@ int main(void)
     readings_of_holds();
     readings_of_most_shifts();
     readings_of_frozen_lines();
+    readings_of_free_events();
+    readings_of_repeats();
     printf("%d passed, %d failed\n", passed, failed);
     return failed == 0 ? EXIT_SUCCESS : EXIT_FAILURE;
 }
