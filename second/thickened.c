@@ -256,7 +256,7 @@ bool thickened_agrees(const Input *input, const Thickened *thickened, Tally *tal
         const uint8_t *bytes = thickened->bytes + start;
         size_t length = input_event_length(thickened->length - start);
         agrees = thickened->added[start / EVENT_BYTES] ? take_added(&runs, bytes, tally)
-                                                    : take_own(&runs, bytes, length, tally);
+                                                       : take_own(&runs, bytes, length, tally);
     }
     return agrees && same_run(&runs.plain, &runs.thickened);
 }

@@ -1,6 +1,6 @@
 -- Where the paper admits two readings: the examples A1 to A5, A8, A10 to A14 (refusals and printing), B1 to B9 and B11 (holds and shifts),
--- D8 and D11 (ticks and repeated quotes) of docs/DECISIONS.md, with a few more and the questions: one table under one claim. A shift line is
--- its second, its side (0 up, 1 down) and its id. Assumes nothing.
+-- D8 and D11's empty quote (ticks and repeated quotes) of docs/DECISIONS.md, with a few more and the questions: one table under one claim. A
+-- shift line is its second, its side (0 up, 1 down) and its id. Assumes nothing.
 use mathlib.Core.Path.{_≡_, refl}
 use mathlib.Core.List.{List, [], _∷_, _++_, map}
 use Prim.Native.Nat.{ℕ, zero, suc}
