@@ -17,7 +17,7 @@ use Rattle.method.specs.Ranges.{Every, LineIn}
 use Rattle.method.specs.Later.{Later, start, shift, event}
 use Rattle.method.specs.Rule1Words.{InSession, IsCrossed, Unknown}
 use Rattle.method.specs.Rule2Words.{BookSaid}
-use Rattle.method.specs.Ticks.{Accepts, Repeats}
+use Rattle.method.specs.Ticks.{Repeats}
 use Rattle.method.proofs.Demands.{met-by}
 use Rattle.method.proofs.Every.{every-map, every-weaker, every-with, every-quoted}
 use Rattle.method.proofs.Table.{accepted-table}
@@ -69,7 +69,7 @@ repeat-open table o e past told h b r its x =
     its (every-with _ _ _ (λ l p q i. crossed-line b l x (p i) q) (s .lines) (r .standing) books)
 
 -- ---- a time from the clock to that of an accepted event
-pub in-session-between : (s : State) (b f : List ℕ) → Accepts s f → s .clock .0 ≤ word b 0 → word b 0 ≤ word f 0 → InSession s b
+pub in-session-between : (s : State) (b f : List ℕ) → verdict s (read f) ≡ EventAnswer.Accepted → s .clock .0 ≤ word b 0 → word b 0 ≤ word f 0 → InSession s b
 in-session-between s b f a c l =
     let e = on-time s (read f) a .most in
     let t : word f 0 ≤ s .end .0 = rw (accepted-time s f a) at e in

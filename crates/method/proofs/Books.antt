@@ -14,20 +14,15 @@ use Rattle.method.specs.Sound.{Distinct}
 use Rattle.method.specs.Table.{opened, opening-state, opening}
 use Rattle.method.specs.Pressure.{judge}
 use Rattle.method.specs.Shift.{moved-line, shift-line, shifted, onward, after}
-use Rattle.method.specs.Event.{price-of, read, verdict, quoted-line, quoted, applied, Answer, accepted, next}
-use Rattle.method.specs.CalledFor.{time, Answers, reached}
+use Rattle.method.specs.Event.{price-of, read, verdict, quoted-line, quoted, applied, accepted, next}
+use Rattle.method.specs.CalledFor.{time}
 use Rattle.method.specs.Ranges.{Every}
-use Rattle.method.specs.Later.{start}
-use Rattle.method.specs.Rule1Words.{its-line, GoodAll, IsQuote}
+use Rattle.method.specs.Rule1Words.{its-line, GoodAll, TableAnswered, all-good, IsQuote, EventAnswered, tick-taken, quote-taken}
 use Rattle.method.specs.Rule2Words.{Each, PriceSaid, Quotes, BookLife}
-use Rattle.method.specs.Rules.{TableAnswered, all-good, EventAnswered, tick-taken, quote-taken}
 use Rattle.method.proofs.Every.{every-all, every-middle}
 use Rattle.method.proofs.Each.{each-same, each-map, each-weaker}
-use Rattle.method.proofs.Table.{accepted-table}
 use Rattle.method.proofs.TableAnswered.{table-answered}
 use Rattle.method.proofs.EventAnswered.{the-quote, read-tick-is, read-quote-is, event-answered}
-use Rattle.method.proofs.Later.{moment-reached}
-use Rattle.method.proofs.Reached.{shifted-moment}
 
 -- ---- the ids of an accepted table differ
 module _ (shift : Millionths) (keys : List Key) where
@@ -53,7 +48,7 @@ distinct-opening table o e = go o (subst (TableAnswered table) e (table-answered
     go : (s : State) → TableAnswered table (opened s) → Distinct (ids (s .lines))
     go s (all-good f k g) = good-distinct _ _ [] _ g
 
-same-ids : (R : Line → Line → Type 0) → ((o l : Line) → R o l → l .terms ≡ o .terms) → (os ls : List Line) → Each R os ls → ids os ≡ ids ls
+pub same-ids : (R : Line → Line → Type 0) → ((o l : Line) → R o l → l .terms ≡ o .terms) → (os ls : List Line) → Each R os ls → ids os ≡ ids ls
 unfolding Each
 same-ids R h [] [] rs = refl
 same-ids R h [] (l ∷ ls) rs = absurd rs
@@ -63,19 +58,12 @@ same-ids R h (o ∷ os) (l ∷ ls) rs =
     let tail = same-ids R h os ls (rs .1) in
     cc
 
-pub distinct-reached : (table : List ℕ) (o : State) → opening table ≡ opened o → (bs : List (List ℕ)) (rs : List Answer) → Answers o bs rs
-    → Distinct (ids (reached o bs rs .lines))
-distinct-reached table o e bs rs h =
-    subst Distinct
-    (same-ids _ (λ a l s. s .terms) (o .lines) (reached o bs rs .lines) (shifted-moment (accepted-table table o e .state) (moment-reached bs rs start h)))
-    (distinct-opening table o e)
-
 -- ---- a shift leaves terms and book of every line
 pub record Alike (l n : Line) : Type 0 where
   pub terms : n .terms ≡ l .terms
   pub book : n .book ≡ l .book
 
-each-alike : (ls : List Line) → Each Alike ls ls
+pub each-alike : (ls : List Line) → Each Alike ls ls
 each-alike ls = each-same (λ l. Unit {0}) Alike (λ l p. record { terms = refl; book = refl }) ls (every-all _ (λ l. tt) ls)
 
 -- the lines os, alike to those of a state, are alike to those of the shifted state
@@ -88,7 +76,7 @@ alike-once-more os s c rs =
 pub alike-onward : (s : State) (c : ShiftLine) → Each Alike (s .lines) (onward s c .lines)
 alike-onward s c = alike-once-more (s .lines) s c (each-alike (s .lines))
 
-alike-after : (os : List Line) (cs : List ShiftLine) (s : State) → Each Alike os (s .lines) → Each Alike os (after cs s .lines)
+pub alike-after : (os : List Line) (cs : List ShiftLine) (s : State) → Each Alike os (s .lines) → Each Alike os (after cs s .lines)
 unfolding after
 alike-after os [] s rs = rs
 alike-after os (c ∷ cs) s rs = alike-after os cs (onward s c) (alike-once-more os s c rs)
@@ -110,7 +98,7 @@ others b (o ∷ os) [] ps rs = rs
 others b (o ∷ os) (l ∷ ls) ps rs = (untouched b o l (λ q. ps .0 (ap (λ t. t .id) (rs .0 .terms) ∙ q .id)) (rs .0), others b os ls (ps .1) (rs .1))
 
 module _ (near : Millionths) (left : ℕ) (b : List ℕ) (quote : IsQuote b) where
-  quoted-book : (o l : Line) → o .terms .id ≡ word b 4 → BookLife b o (quoted-line near left (the-quote b) l)
+  pub quoted-book : (o l : Line) → o .terms .id ≡ word b 4 → BookLife b o (quoted-line near left (the-quote b) l)
   unfolding quoted-line judge
   quoted-book o l e =
       record {

@@ -30,13 +30,16 @@ pub mod ShiftedLine
 pub mod Later
 pub mod Reached
 pub mod Books
+pub mod OneStep
+pub mod OneSession
+pub mod Moments
+pub mod Computed
 pub mod Rule1
 pub mod Rule2
 pub mod Rule3
 pub mod Clock
 pub mod Repeats
 pub mod Looks
-pub mod SameRun
 pub mod Thinning
 pub mod Acceptable
 pub mod Ticks

@@ -34,7 +34,7 @@ use Rattle.method.specs.Opening.{permits-negative, under-watch}
 use Rattle.method.specs.Pressure.{close, price, presses, judge}
 use Rattle.method.specs.Shift.{moved, redrawn, moved-line, shift-line, shifted, onward}
 use Rattle.method.specs.Event.{quoted-line}
-use Rattle.method.specs.Ranges.{Every, LineIn}
+use Rattle.method.specs.Ranges.{Every, Room}
 use Rattle.method.specs.Rule2Words.{presses-at}
 use Rattle.method.proofs.Bounds.{upper-rises, lower-falls}
 use Rattle.method.proofs.Floor.{Floored, free, met, floor-of, floored-upper}
@@ -44,8 +44,8 @@ pub record Fit (l : Line) : Type 0 where
   pub by : pos 0 ≤ℤ (l .terms .halfmove .0)
   pub least : permits-negative (l .terms .flags) ≡ false → pos 1 ≤ℤ (l .limits .lower .0)
 
-pub fit-opened : (l : Line) → LineIn l → Fit l
-fit-opened l o = let h = o .terms .halfmove .least in record { by = omega zarith; least = o .limits .floor .least }
+pub fit-room : {left : ℕ} (l : Line) → Room left l → Fit l
+fit-room l r = let h = r .terms .halfmove .least in record { by = omega zarith; least = r .limits .floor .least }
 
 -- ---- the floor keeps a limit fit, and does not lift it above a fit one
 floored-least : {permitted : Bool} {k n : Limits} → Floored permitted k n → permitted ≡ false → pos 1 ≤ℤ (n .lower .0)

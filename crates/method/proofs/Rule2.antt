@@ -1,160 +1,228 @@
 -- Rule 2: a theorem for each statement of specs/Rules, in its order. Assumes nothing.
-use mathlib.Core.Path.{_≡_, ap, _∙_}
+use mathlib.Core.Path.{_≡_, sym, ap, _∙_, subst}
 use mathlib.Core.List.{List, _∷_, _++_}
-use Prim.Native.Nat.{ℕ}
+use mathlib.Core.Logic.{_⊎_}
+use Prim.Native.Nat.{ℕ, _≤_}
 use native.Mathlib.Omega.{arith}
-use Rattle.method.specs.Types.{State}
-use Rattle.method.specs.Table.{opening-state, opening, opened}
-use Rattle.method.specs.Shift.{onward, after}
-use Rattle.method.specs.Event.{read, Answer, next}
-use Rattle.method.specs.CalledFor.{First, Calls, time, Right, Answers, reached}
-use Rattle.method.specs.Search.{run}
-use Rattle.method.specs.Ranges.{LineIn}
-use Rattle.method.specs.Sound.{Sound}
-use Rattle.method.specs.Rule2Words.{Caller, Timely}
+use Rattle.method.specs.Types.{Since, ShiftLine, State, seconds}
+use Rattle.method.specs.Wire.{word}
+use Rattle.method.specs.Table.{opening-state}
+use Rattle.method.specs.Shift.{after}
+use Rattle.method.specs.Event.{read, Answer, accepted, next}
+use Rattle.method.specs.CalledFor.{Stands, First, Done, Calls, time, Right}
+use Rattle.method.specs.Search.{run, finally}
+use Rattle.method.specs.Ranges.{Every, LineIn, Room}
+use Rattle.method.specs.Sound.{Sound, Proper}
+use Rattle.method.specs.Rule2Words.{hold-at, Caller, Timely}
+use Rattle.method.specs.InWords.{SameTable, Follows, AnswersInWords}
+use Rattle.method.specs.Sessions.{Opens, AtOnce, Stage, Begun, Throughout}
+use Rattle.method.specs.Later.{start}
 use Rattle.method.specs.Rules.{
-  RightAnswers,
-  SessionReached,
-  EmptyAtOpening,
-  BookOverShift,
-  BookOverEvent,
-  ClockSet,
-  TableKept,
+  EverySession,
+  EventAtOnce,
   NothingLeft,
   NoneMissed,
-  WheneverLooked,
-  HoldOverShift,
-  HoldOverEvent,
+  HoldsStandExactly,
+  HoldsStandBetween,
   InOrder,
   EachLineCalledFor,
   EachLineReported,
   ShiftsCounted,
   AtMostSixteen,
+  Rule2,
+  AtMostOne,
+  WheneverLooked,
+  AtOpening,
+  TableKept,
 }
 use Rattle.method.proofs.Every.{every-weaker, every-middle}
-use Rattle.method.proofs.Table.{accepted-table, table-most}
-use Rattle.method.proofs.EveryLine.{after-keeps, reached-keeps}
-use Rattle.method.proofs.HoldLife.{onward-life, applied-life}
-use Rattle.method.proofs.Serving.{after-append, calls-append, after-kept, after-judged, calls-left, calls-rest, first-caller}
+use Rattle.method.proofs.Table.{accepted-table}
+use Rattle.method.proofs.TableAnswered.{answered-table}
+use Rattle.method.proofs.EventAnswered.{answered-verdict}
+use Rattle.method.proofs.EveryLine.{after-keeps}
+use Rattle.method.proofs.HoldLife.{holds-exact}
+use Rattle.method.proofs.Serving.{after-kept, after-judged, calls-left, calls-rest, first-caller}
 use Rattle.method.proofs.Answers.{
   opening-idle,
-  sound-opening,
-  sound-reached,
+  applied-kept,
   next-clock,
   kept-reached,
-  run-right,
-  answers-unique,
-  finally-reached,
   next-done,
   next-timely,
+  next-count,
   answers-rising,
   answers-count,
-  answers-reported,
 }
-use Rattle.method.proofs.Stages.{pressed-since}
-use Rattle.method.proofs.OtherSide.{Fit, fit-opened, fit-shift, fit-quote}
+use Rattle.method.proofs.Stages.{shift-stages as shift-stages-of, pressed-since}
+use Rattle.method.proofs.OtherSide.{Fit, fit-room, fit-shift, fit-quote}
 use Rattle.method.proofs.NoneMissed.{calls-answer}
-use Rattle.method.proofs.Each.{each-weaker}
-use Rattle.method.proofs.Books.{Alike, alike-onward, distinct-reached, books-over, accepted-time}
+use Rattle.method.proofs.Later.{moment-next}
+use Rattle.method.proofs.Reached.{shifted-from}
+use Rattle.method.proofs.Books.{books-over, accepted-time}
+use Rattle.method.proofs.OneSession.{serves-after, serves-on, follows-right, words-one, Told, proper-held, told-from, opens-proper, run-in-words, words-reported}
+use Rattle.method.proofs.Moments.{shift-stages-are, stages-are}
 
--- ---- right answers, and no others
-pub rule2-answers : RightAnswers
-rule2-answers table o e bs rs =
-    let right : Answers o bs (run o bs) = run-right o bs (sound-opening table o e) in
-    (λ h. answers-unique o bs rs (run o bs) h right, λ q. rw q right)
+-- ---- of any state at all
+pub rule2-at-most-one : AtMostOne
+rule2-at-most-one s bs rs qs m n h k = words-one h k
 
-pub rule2-session : SessionReached
-rule2-session s bs = finally-reached s bs
+pub rule2-whenever-looked : WheneverLooked
+rule2-whenever-looked u t s m n cs ds l h k = serves-on l h k
 
--- ---- the state that right answers leave is sound
-sound-told : (table : List ℕ) (o : State) → opening table ≡ opened o → (past : List (List ℕ)) (told : List Answer) → Answers o past told
-    → Sound (reached o past told)
-sound-told table o e past told h = sound-reached o past told (sound-opening table o e) h
+-- ---- an accepted event of a session from a proper state, and what is computed of it
+module _ (o : State) (p : Proper o) {past : List (List ℕ)} {told : List Answer} {s : State} (h : AnswersInWords o past told s) where
+  t : Told o past told s
+  t = told-from o p h
 
--- ---- books, clock and table
-pub rule2-at-opening : EmptyAtOpening
-rule2-at-opening table o e =
-    let i = accepted-table table o e .state in
-    (every-weaker LineIn _ (λ l r. r .book) (o .lines) (i .lines), i .clock)
+  sound : Sound s
+  sound = t .proper .sound
 
-pub rule2-books-over-a-shift : BookOverShift
-rule2-books-over-a-shift s c = each-weaker Alike _ (λ l n a. a .book) (s .lines) (onward s c .lines) (alike-onward s c)
+  fit : Every Fit (s .lines)
+  fit = every-weaker (Room (s .left)) Fit fit-room (s .lines) (t .proper .sane .rooms)
 
-pub rule2-books : BookOverEvent
-rule2-books table o e past told h b cs r =
-    let s : State = reached o past told in
-    books-over s b cs (distinct-reached table o e past told h) (unfold Right in r .0)
+  same-end : s .end ≡ o .end
+  same-end = rw (t .is) (kept-reached o past told .end)
 
-pub rule2-clock : ClockSet
-rule2-clock table o e past told h b cs r =
-    let s : State = reached o past told in
-    next-clock s (read b) cs r ∙ accepted-time s b (unfold Right in r .0)
+  module _ {b : List ℕ} {cs : List ShiftLine} {n : State} (f : Follows s b cs n) where
+    right : Right s (read b) (accepted cs)
+    right = follows-right s sound (t .proper .distinct) b cs f .0
+
+    is-next : n ≡ next s (read b) (accepted cs)
+    is-next = follows-right s sound (t .proper .distinct) b cs f .1
+
+    at : time (read b) ≡ seconds (word b 0)
+    at = accepted-time s b (answered-verdict s b (f .taken))
+
+    kept : SameTable s n
+    kept =
+        let k = applied-kept (read b) (after cs s) in
+        let j = after-kept cs s in
+        rw is-next (unfold next in record { end = k .end ∙ j .end; hold = k .hold ∙ j .hold; near = k .near ∙ j .near })
+
+    at-once : AtOnce s b cs n
+    at-once =
+        record {
+          shifted = rw is-next (shifted-from (proper-held s (t .proper)) (moment-next b (accepted cs) start right));
+          books = rw is-next (books-over s b cs (t .proper .distinct) (answered-verdict s b (f .taken)));
+          left = rw is-next (next-count s (read b) (accepted cs) sound right);
+          clock = rw is-next (next-clock s (read b) cs right ∙ at);
+          table = kept;
+        }
+
+    done : Done (seconds (word b 0)) n
+    done = rw (is-next, ← at) (next-done s (read b) cs sound right)
+
+-- ---- of a session that begins in a proper state
+module _ {From : State → Type 0} (proper : (o : State) → From o → Proper o) where
+  pub rule2-every-session : EverySession From
+  rule2-every-session o q bs =
+      let p = proper o q in
+      let its : AnswersInWords o bs (run o bs) (finally o bs) = run-in-words o (p .sound) (p .distinct) bs in
+      record { it = (run o bs, finally o bs); so = its; only = λ r h. let e = words-one h its in λ i. (e .0 i, e .1 i) }
+
+  pub rule2-at-once : EventAtOnce From
+  rule2-at-once o q past told s h b cs n f = at-once o (proper o q) h f
+
+  -- none missed
+  pub rule2-nothing-left : NothingLeft From
+  rule2-nothing-left o q past told s h b cs n f = done o (proper o q) h f
+
+  pub rule2-none-missed : NoneMissed From
+  rule2-none-missed o q past told s h b cs ds m n f k x stands u w =
+      let p = proper o q in
+      let e : m ≡ after cs s = serves-after k in
+      let by : x .second .0 ≤ time (read b) .0 = rw (at o p h f) u in
+      rw e
+      (calls-answer (time (read b)) (after cs s) ds x (after-keeps Fit fit-shift fit-quote cs s (fit o p h)) (after-judged cs s (sound o p h .exact))
+      (calls-rest (time (read b)) s cs ds (unfold Right in right o p h f .1)) (subst (λ (j : State). Stands j x) e stands) by
+      (rw (after-kept cs s .end, same-end o p h) w))
+
+  -- where holds stand
+  pub rule2-exact : HoldsStandExactly From
+  rule2-exact o q bs rs s h = holds-exact s (sound o (proper o q) h .exact)
+
+  pub rule2-exact-between : HoldsStandBetween From
+  rule2-exact-between o q past told s h t cs m k =
+      rw (serves-after k) (holds-exact (after cs s) (after-judged cs s (sound o (proper o q) h .exact)))
+
+  -- order
+  pub rule2-order : InOrder From
+  rule2-order o q bs rs s h = let p = proper o q in answers-rising o bs rs (p .sound) (told-from o p h .answers)
+
+  -- no other
+  pub rule2-called-for : EachLineCalledFor From
+  rule2-called-for o q past told s h b cs c ds m n f k =
+      let p = proper o q in
+      let t = told-from o p h in
+      let e : m ≡ after cs s = serves-after k in
+      let r = right o p h f in
+      let first : First (time (read b)) (after cs s) c = unfold Calls in calls-rest (time (read b)) s cs (c ∷ ds) (unfold Right in r .1) .0 in
+      let by : Caller m c = rw e (first-caller first) in
+      let all = next-timely s (read b) (cs ++ c ∷ ds) (sound o p h) r in
+      let there = pressed-since o past told (read b) cs (c ∷ ds) (c .side) (by .place) (by .start) (p .sound) (t .answers)
+      (subst (λ (j : State). Right j (read b) (accepted (cs ++ c ∷ ds))) (t .is) r)
+      (subst (λ (j : State). hold-at (c .side) j (by .place) ≡ Since (by .start)) (e ∙ ap (after cs) (t .is)) (by .held)) in
+      let before = stages-are (p .sound) (p .distinct) h in
+      let during = shift-stages-are k ∙ ap (λ (j : State). shift-stages-of j cs) (t .is) in
+      record {
+        caller = by;
+        timely = rw (at o p h f, same-end o p h) at (every-middle (Timely (s .clock) (time (read b)) (s .end)) cs c ds all);
+        unbroken =
+            subst
+            (λ (ms : List Stage). Begun (c .side) (by .place) (by .start) ms ⊎ Throughout (c .side) (by .place) (by .start) o ms)
+            (sym (λ i. before i ++ during i)) there;
+      }
+
+  pub rule2-reported : EachLineReported From
+  rule2-reported o q bs rs s h = words-reported h
+
+  pub rule2-count : ShiftsCounted From
+  rule2-count o q bs rs s h = let p = proper o q in let t = told-from o p h in rw (t .is) (answers-count o bs rs (p .sound) (t .answers))
+
+  pub rule2-at-most-sixteen : AtMostSixteen From
+  rule2-at-most-sixteen o q past told s h b cs n f =
+      let p = proper o q in
+      let lines = calls-left (time (read b)) s cs (sound o p h .exact) (unfold Right in right o p h f .1) in
+      let most = told-from o p h .proper .sane .left in
+      omega arith
+
+  all-of-it : Rule2 From
+  all-of-it =
+      record {
+        every-session = rule2-every-session;
+        at-once = rule2-at-once;
+        nothing-left = rule2-nothing-left;
+        none-missed = rule2-none-missed;
+        exact = rule2-exact;
+        exact-between = rule2-exact-between;
+        in-order = rule2-order;
+        called-for = rule2-called-for;
+        reported = rule2-reported;
+        counted = rule2-count;
+        at-most-sixteen = rule2-at-most-sixteen;
+      }
+
+pub rule2 : Rule2 Opens
+rule2 = all-of-it opens-proper
+
+pub rule2-kept : Rule2 Proper
+rule2-kept = all-of-it (λ o p. p)
+
+-- ---- of what a table opens
+pub rule2-at-opening : AtOpening
+rule2-at-opening o q =
+    let e = answered-table (q .table) (q .opened-by) in
+    let i = accepted-table (q .table) o e .state in
+    (every-weaker LineIn _ (λ l r. r .book) (o .lines) (i .lines), i .clock, opening-idle (q .table) o e)
 
 pub rule2-table-kept : TableKept
 unfolding opening-state
-rule2-table-kept table o e bs rs h =
+rule2-table-kept o q bs rs s h =
     let k = kept-reached o bs rs in
-    let opens = accepted-table table o e .opens in
-    record {
+    let opens = accepted-table (q .table) o (answered-table (q .table) (q .opened-by)) .opens in
+    rw (told-from o (opens-proper o q) h .is)
+    (record {
       end = k .end ∙ ap (λ (s : State). s .end) opens;
       hold = k .hold ∙ ap (λ (s : State). s .hold) opens;
       near = k .near ∙ ap (λ (s : State). s .near) opens;
-    }
-
--- ---- none missed
-pub rule2-nothing-left : NothingLeft
-rule2-nothing-left table o e past told h b cs r = next-done (reached o past told) (read b) cs (sound-told table o e past told h) r
-
-pub rule2-none-missed : NoneMissed
-rule2-none-missed table o e past told h b cs ds r x k p q =
-    let s : State = reached o past told in
-    let v : Sound s = sound-told table o e past told h in
-    let fit-o = every-weaker _ Fit fit-opened (o .lines) (accepted-table table o e .state .lines) in
-    let fit-s = reached-keeps Fit fit-shift fit-quote o past told fit-o in
-    calls-answer (time (read b)) (after cs s) ds x (after-keeps Fit fit-shift fit-quote cs s fit-s) (after-judged cs s (v .exact))
-    (calls-rest (time (read b)) s cs ds (unfold Right in r .1)) k p (rw (after-kept cs s .end, kept-reached o past told .end) q)
-
-pub rule2-whenever-looked : WheneverLooked
-rule2-whenever-looked s u t cs ds h a b = (calls-append u t cs ds s h a b, after-append cs ds s)
-
--- ---- the life of a hold
-pub rule2-over-a-shift : HoldOverShift
-rule2-over-a-shift s c side place = onward-life s c side place
-
-pub rule2-over-an-event : HoldOverEvent
-rule2-over-an-event table o e past told h b cs r side place =
-    let s : State = reached o past told in
-    unfold next in applied-life (read b) (after cs s) side place (after-judged cs s (sound-told table o e past told h .exact))
-
--- ---- order
-pub rule2-order : InOrder
-rule2-order table o e bs rs h = answers-rising o bs rs (sound-opening table o e) h
-
--- ---- no other
-pub rule2-called-for : EachLineCalledFor
-rule2-called-for table o e past told h b cs c ds r =
-    let s : State = reached o past told in
-    let first : First (time (read b)) (after cs s) c = unfold Calls in calls-rest (time (read b)) s cs (c ∷ ds) (unfold Right in r .1) .0 in
-    let by : Caller (after cs s) c = first-caller first in
-    let all = next-timely s (read b) (cs ++ c ∷ ds) (sound-told table o e past told h) r in
-    record {
-      caller = by;
-      timely = rw (kept-reached o past told .end) at (every-middle (Timely (s .clock) (time (read b)) (s .end)) cs c ds all);
-      unbroken =
-          pressed-since o past told (read b) cs (c ∷ ds) (c .side) (by .place) (by .start) (sound-opening table o e)
-          (opening-idle table o e (c .side) (by .place)) h r (by .held);
-    }
-
-pub rule2-reported : EachLineReported
-rule2-reported table o e bs rs h = answers-reported o bs rs h
-
-pub rule2-count : ShiftsCounted
-rule2-count table o e bs rs h = answers-count o bs rs (sound-opening table o e) h ∙ table-most table o e
-
-pub rule2-at-most-sixteen : AtMostSixteen
-rule2-at-most-sixteen table o e past told h b cs r =
-    let s : State = reached o past told in
-    let lines = calls-left (time (read b)) s cs (sound-told table o e past told h .exact) (unfold Right in r .1) in
-    let made = answers-count o past told (sound-opening table o e) h in
-    let most = accepted-table table o e .state .left in
-    omega arith
+    })

@@ -1,19 +1,24 @@
 -- Rule 3: a theorem for each statement of specs/Rules. Assumes nothing.
 use mathlib.Core.Path.{_≡_, refl, sym, _∙_}
 use mathlib.Core.Bool.{true, false, true≢false}
+use mathlib.Core.List.{List}
 use mathlib.Core.Logic.{_↔_}
 use Prim.Native.Nat.{ℕ}
 use native.Mathlib.Omega.{arith}
 use lib.IntN.{ℤ, pos, _+ℤ_, _-ℤ_}
 use lib.Signed.{_≤ℤ_, _<ℤ_}
 use Rattle.numbers.proofs.Halves.{zarith, add-is, sub-is}
-use Rattle.method.specs.Types.{Side, Up, Down, Line, steps}
+use Rattle.method.specs.Types.{Side, Up, Down, Line, ShiftLine, State, steps}
 use Rattle.method.specs.Bounds.{bound}
-use Rattle.method.specs.Opening.{permits-negative}
-use Rattle.method.specs.Event.{read}
-use Rattle.method.specs.CalledFor.{time, Right, reached, joined}
-use Rattle.method.specs.Ranges.{Room}
-use Rattle.method.specs.Later.{start}
+use Rattle.method.specs.Opening.{permits-negative, ids}
+use Rattle.method.specs.Event.{Answer}
+use Rattle.method.specs.CalledFor.{joined}
+use Rattle.method.specs.Ranges.{OpeningIn, Room}
+use Rattle.method.specs.Sound.{Distinct}
+use Rattle.method.specs.Later.{Later}
+use Rattle.method.specs.Rule2Words.{Each}
+use Rattle.method.specs.InWords.{AnswersInWords}
+use Rattle.method.specs.Sessions.{Opens, Moment, start}
 use Rattle.method.specs.Rule3Words.{
   margin,
   FloorMet,
@@ -31,7 +36,6 @@ use Rattle.method.specs.Rules.{
   HalfWidthsGrow,
   ShiftsWithin,
   NeverInward,
-  NeverInwardLater,
   UpperInside,
   LowerInside,
   FrozenTells,
@@ -43,58 +47,77 @@ use Rattle.method.specs.Rules.{
 }
 use Rattle.method.proofs.Each.{each-weaker, each-with}
 use Rattle.method.proofs.Table.{accepted-table, table-most}
-use Rattle.method.proofs.Later.{moment-after, moment-reached, moment-rest, answers-split, held-opening, held-moment}
+use Rattle.method.proofs.TableAnswered.{answered-table}
+use Rattle.method.proofs.OneSession.{opens-proper}
+use Rattle.method.proofs.Moments.{moment-words, moment-shifts, moment-rest, moment-later}
+use Rattle.method.proofs.Later.{Held, held-opening, held-moment}
 use Rattle.method.proofs.Reached.{shifted-moment, left-moment, Limited, wider-moment}
 
 -- ---- moments
 pub rule3-answers-lead : AnswersLead
-rule3-answers-lead s bs rs r = moment-reached bs rs start r
+rule3-answers-lead s n bs rs h = moment-words start h
 
 pub rule3-shifts-lead : ShiftsLead
-unfolding Right
-rule3-shifts-lead s b cs ds r = (moment-after (time (read b)) cs ds start (r .1), moment-rest s b cs ds r)
+rule3-shifts-lead s m n b cs ds f k = (moment-shifts k, moment-rest f k)
+
+-- of a session from an accepted table: the ranges, and the computed moments
+module _ (o : State) (q : Opens o) where
+  opens : OpeningIn o
+  opens = accepted-table (q .table) o (answered-table (q .table) (q .opened-by)) .state
+
+  its-held : Held o
+  its-held = held-opening o opens
+
+  later : {s : State} {cs : List ShiftLine} → Moment o cs s → Later o cs s × Distinct (ids (s .lines))
+  later m = moment-later its-held (opens-proper o q .distinct) m
+
+  after-words : {bs : List (List ℕ)} {rs : List Answer} {s : State} → AnswersInWords o bs rs s → Later o (joined rs) s
+  after-words {bs} {rs} {s} h = later (rule3-answers-lead o s bs rs h) .0
 
 -- ---- the whole line, and what is read off it
 pub rule3-lines : LinesShifted
-rule3-lines table o e bs rs r = shifted-moment (accepted-table table o e .state) (rule3-answers-lead o bs rs r)
+rule3-lines o q bs rs s h = shifted-moment (opens o q) (after-words o q h)
 
 pub rule3-centres : Centres
-rule3-centres table o e bs rs r = each-weaker _ _ (λ a l s. s .centre) (o .lines) (reached o bs rs .lines) (rule3-lines table o e bs rs r)
+rule3-centres o q bs rs s h = each-weaker _ _ (λ x l k. k .centre) (o .lines) (s .lines) (rule3-lines o q bs rs s h)
 
 pub rule3-half-widths : HalfWidthsGrow
-rule3-half-widths table o e bs rs r = each-weaker _ _ (λ a l s. s .halfs) (o .lines) (reached o bs rs .lines) (rule3-lines table o e bs rs r)
+rule3-half-widths o q bs rs s h = each-weaker _ _ (λ x l k. k .halfs) (o .lines) (s .lines) (rule3-lines o q bs rs s h)
 
 pub rule3-upper : UpperInside
-rule3-upper table o e bs rs r = each-weaker _ _ (λ a l s. s .upper) (o .lines) (reached o bs rs .lines) (rule3-lines table o e bs rs r)
+rule3-upper o q bs rs s h = each-weaker _ _ (λ x l k. k .upper) (o .lines) (s .lines) (rule3-lines o q bs rs s h)
 
 pub rule3-lower : LowerInside
-rule3-lower table o e bs rs r = each-weaker _ _ (λ a l s. s .lower) (o .lines) (reached o bs rs .lines) (rule3-lines table o e bs rs r)
+rule3-lower o q bs rs s h = each-weaker _ _ (λ x l k. k .lower) (o .lines) (s .lines) (rule3-lines o q bs rs s h)
 
 -- ---- the number of shifts
 pub rule3-shifts : ShiftsWithin
-rule3-shifts table o e bs rs r =
-    let left = left-moment (held-opening o (accepted-table table o e .state)) (rule3-answers-lead o bs rs r) ∙ table-most table o e in
+rule3-shifts o q bs rs s h =
+    let left = left-moment (its-held o q) (after-words o q h) ∙ table-most (q .table) o (answered-table (q .table) (q .opened-by)) in
     (omega (arith, left), left)
 
 -- ---- from a moment to a later one
-pub rule3-never-inward : NeverInward
-rule3-never-inward table o s r cs ds e m n =
-    let h = held-moment (held-opening o (accepted-table table o e .state)) m in
-    each-weaker Limited Outward (λ a l w. record { upper = w .upper; lower = w .lower }) (s .lines) (r .lines) (wider-moment h n)
+module _ (o : State) (q : Opens o) {s r : State} {cs ds : List ShiftLine} (m : Moment o cs s) (n : Moment s ds r) where
+  here : Held s
+  here = held-moment (its-held o q) (later o q m .0)
 
-pub rule3-never-inward-later : NeverInwardLater
-rule3-never-inward-later table o bs ds rs qs e size r =
-    let p = answers-split o bs ds rs qs size r in
-    rw (p .last)
-    (rule3-never-inward table o (reached o bs rs) (reached (reached o bs rs) ds qs) (joined rs) (joined qs) e (rule3-answers-lead o bs rs (p .first))
-    (rule3-answers-lead (reached o bs rs) ds qs (p .rest)))
+  thence : Later s ds r
+  thence = moment-later here (later o q m .1) n .0
+
+  pub never-inward : Each Outward (s .lines) (r .lines)
+  never-inward = each-weaker Limited Outward (λ x l w. record { upper = w .upper; lower = w .lower }) (s .lines) (r .lines) (wider-moment here thence)
+
+  pub frozen-for-good : Each StaysFrozen (s .lines) (r .lines)
+  frozen-for-good =
+      each-with (Room (r .left)) Limited StaysFrozen
+      (λ x l v w. record { frozen = w .frozen; lower = λ y. v .limits .floor .frozen-at (w .frozen y) }) (s .lines) (r .lines)
+      (held-moment here thence .sane .rooms) (wider-moment here thence)
+
+pub rule3-never-inward : NeverInward
+rule3-never-inward o s r cs ds q m n = never-inward o q m n
 
 pub rule3-frozen-for-good : FrozenForGood
-rule3-frozen-for-good table o s r cs ds e m n =
-    let h = held-moment (held-opening o (accepted-table table o e .state)) m in
-    each-with (Room (r .left)) Limited StaysFrozen
-    (λ a l v w. record { frozen = w .frozen; lower = λ y. v .limits .floor .frozen-at (w .frozen y) }) (s .lines) (r .lines)
-    (held-moment h n .sane .rooms) (wider-moment h n)
+rule3-frozen-for-good o s r cs ds q m n = frozen-for-good o q m n
 
 -- ---- the two cases of the lower limit exclude each other: w inside its bound b by i, as at opening
 not-below : (w b i : ℤ) → w -ℤ b ≡ i → pos 1 ≤ℤ w → (b +ℤ i) <ℤ pos 1 → ⊥
@@ -110,7 +133,7 @@ frozen-tells o l (exactly z least e f) = (λ y. absurd (true≢false (sym y ∙ 
 frozen-tells o l (at-floor x w i f) = (λ y. x, λ y. f)
 
 pub rule3-frozen-tells : FrozenTells
-rule3-frozen-tells table o e bs rs r = each-weaker Lower _ frozen-tells (o .lines) (reached o bs rs .lines) (rule3-lower table o e bs rs r)
+rule3-frozen-tells o q bs rs s h = each-weaker Lower _ frozen-tells (o .lines) (s .lines) (rule3-lower o q bs rs s h)
 
 -- ---- so the statements leave one line
 same-upper : (b b′ x y z : ℤ) → b ≡ b′ → b -ℤ x ≡ z → b′ -ℤ y ≡ z → x ≡ y

@@ -5,30 +5,32 @@ use mathlib.Core.Logic.{_⊎_, inl, inr, ⊎-elim}
 use mathlib.Core.List.{List, [], _∷_, _++_}
 use Prim.Native.Nat.{ℕ, _≤_, _<_}
 use native.Mathlib.Omega.{arith}
-use Rattle.method.specs.Types.{Side, Seconds, Idle, Since, Event, ShiftLine, State}
+use Rattle.method.specs.Types.{Side, Seconds, Since, Event, ShiftLine, State}
 use Rattle.method.specs.Shift.{onward, after}
 use Rattle.method.specs.Event.{read, Answer, accepted, refused, next}
 use Rattle.method.specs.CalledFor.{time, Right, Answers, reached}
 use Rattle.method.specs.Ranges.{Every}
 use Rattle.method.specs.Sound.{Sound}
-use Rattle.method.specs.Rule2Words.{
-  hold-at,
-  Precedes,
-  before,
-  up-down,
-  Rising,
-  Timely,
-  Stage,
-  shift-stages,
-  event-stages,
-  stages,
-  Pressing,
-  Unbroken,
-}
+use Rattle.method.specs.Rule2Words.{hold-at, Precedes, before, up-down, Rising, Timely}
+use Rattle.method.specs.Sessions.{Stage, Pressing, Begun, Throughout}
 use Rattle.method.proofs.Every.{every-weaker, every-front}
-use Rattle.method.proofs.HoldLife.{Judged, no-since, applied-life, life-since, held-pressed}
+use Rattle.method.proofs.HoldLife.{Judged, applied-life, life-since, held-pressed}
 use Rattle.method.proofs.Serving.{judged-onward, onward-held, calls-rising, after-judged}
 use Rattle.method.proofs.Answers.{next-sound, next-clock, next-timely, right-from-clock, sound-reached}
+
+-- ---- the stages, computed
+unfoldable pub shift-stages : State → List ShiftLine → List Stage
+shift-stages s [] = []
+shift-stages s (c ∷ cs) = record { second = c .second; state = onward s c } ∷ shift-stages (onward s c) cs
+
+unfoldable pub event-stages : State → Event → Answer → List Stage
+event-stages s e (accepted cs) = shift-stages s cs ++ record { second = time e; state = next s e (accepted cs) } ∷ []
+event-stages s e (refused why) = []
+
+unfoldable pub stages : State → List (List ℕ) → List Answer → List Stage
+stages s [] rs = []
+stages s (b ∷ bs) [] = []
+stages s (b ∷ bs) (a ∷ rs) = event-stages s (read b) a ++ stages (next s (read b) a) bs rs
 
 -- ---- a chain of stages
 record Follows (m n : Stage) : Type 0 where
@@ -79,7 +81,7 @@ module _ (side : Side) (place : ℕ) (start : Seconds) where
       )
 
   -- and from a stage at that very second on, unless it has stood from the first
-  record Begun (ns : List Stage) : Type 0 where
+  record From (ns : List Stage) : Type 0 where
     earlier : List Stage
     began : Stage
     later : List Stage
@@ -87,24 +89,22 @@ module _ (side : Side) (place : ℕ) (start : Seconds) where
     at-start : began .second ≡ start
     from-there : Every (Pressing side place start) (began ∷ later)
 
-  abbrev Throughout : Stage → List Stage → Type 0
-  Throughout m ns = Held m × Every (Pressing side place start) ns
-
-  begun : (m : Stage) (ns : List Stage) → Chain m ns → Held (last m ns) → Throughout m ns ⊎ Begun ns
+  begun : (m : Stage) (ns : List Stage) → Chain m ns → Held (last m ns) → From ns ⊎ Throughout side place start (m .state) ns
   unfolding Chain last Every
-  begun m [] h e = inl (e, tt)
+  begun m [] h e = inr (record { stood = e; ever-since = tt })
   begun m (n ∷ ns) h e = go (begun n ns (h .1) e)
     where
-      here : Every (Pressing side place start) (n ∷ ns) → (start ≡ n .second) ⊎ Held m → Throughout m (n ∷ ns) ⊎ Begun (n ∷ ns)
-      here k (inl p) = inr (record { earlier = []; began = n; later = ns; split = refl; at-start = sym p; from-there = k })
-      here k (inr p) = inl (p, k)
+      here : Every (Pressing side place start) (n ∷ ns) → (start ≡ n .second) ⊎ Held m
+          → From (n ∷ ns) ⊎ Throughout side place start (m .state) (n ∷ ns)
+      here k (inl p) = inl (record { earlier = []; began = n; later = ns; split = refl; at-start = sym p; from-there = k })
+      here k (inr p) = inr (record { stood = p; ever-since = k })
 
-      go : Throughout n ns ⊎ Begun ns → Throughout m (n ∷ ns) ⊎ Begun (n ∷ ns)
-      go (inl k) =
-          let pressed = held-pressed (n .state) side place (h .0 .judged) (k .0) .1 in
-          here (record { held = k .0; pressed = pressed }, k .1) (h .0 .held side place start (k .0))
-      go (inr b) =
-          inr (record {
+      go : From ns ⊎ Throughout side place start (n .state) ns → From (n ∷ ns) ⊎ Throughout side place start (m .state) (n ∷ ns)
+      go (inr k) =
+          let pressed = held-pressed (n .state) side place (h .0 .judged) (k .stood) .1 in
+          here (record { held = k .stood; pressed = pressed }, k .ever-since) (h .0 .held side place start (k .stood))
+      go (inl b) =
+          inl (record {
             earlier = n ∷ b .earlier;
             began = b .began;
             later = b .later;
@@ -113,12 +113,11 @@ module _ (side : Side) (place : ℕ) (start : Seconds) where
             from-there = b .from-there;
           })
 
-  chain-unbroken : (m : Stage) (ns : List Stage) → Chain m ns → Held (last m ns) → (Held m → ⊥) → Unbroken side place start ns
-  chain-unbroken m ns h e none = go (begun m ns h e)
+  chain-unbroken : (m : Stage) (ns : List Stage) → Chain m ns → Held (last m ns) → Begun side place start ns ⊎ Throughout side place start (m .state) ns
+  chain-unbroken m ns h e = ⊎-elim (λ b. inl (with-the-rest b)) inr (begun m ns h e)
     where
-      go : Throughout m ns ⊎ Begun ns → Unbroken side place start ns
-      go (inl k) = absurd (none (k .0))
-      go (inr b) =
+      with-the-rest : From ns → Begun side place start ns
+      with-the-rest b =
           record {
             earlier = b .earlier;
             began = b .began;
@@ -221,10 +220,11 @@ rising-front [] ds h = tt
 rising-front (c ∷ cs) ds h = (every-front (Precedes c) cs ds (h .0), rising-front cs ds (h .1))
 
 pub pressed-since : (o : State) (past : List (List ℕ)) (told : List Answer) (e : Event) (cs ds : List ShiftLine)
-    → (side : Side) (place : ℕ) (start : Seconds) → Sound o → hold-at side o place ≡ Idle → Answers o past told
+    → (side : Side) (place : ℕ) (start : Seconds) → Sound o → Answers o past told
     → Right (reached o past told) e (accepted (cs ++ ds)) → hold-at side (after cs (reached o past told)) place ≡ Since start
-    → Unbroken side place start (stages o past told ++ shift-stages (reached o past told) cs)
-pressed-since o past told e cs ds side place start v idle h r held =
+    → let ms : List Stage = stages o past told ++ shift-stages (reached o past told) cs in
+    Begun side place start ms ⊎ Throughout side place start o ms
+pressed-since o past told e cs ds side place start v h r held =
     let s : State = reached o past told in
     let w : Sound s = sound-reached o past told v h in
     let front = run-chain o past told v h in
@@ -234,4 +234,3 @@ pressed-since o past told e cs ds side place start v idle h r held =
     chain-unbroken side place start (now o) (stages o past told ++ shift-stages s cs)
     (chain-append (now o) (stages o past told) (shift-stages s cs) (front .0) (rw (front .1) (served-chain s (time e) cs timely rising)))
     (rw (last-append (now o) (stages o past told) (shift-stages s cs), front .1, end) held)
-    (λ k. no-since (sym idle ∙ k))

@@ -1,52 +1,51 @@
 -- Ticks are free: a theorem for each statement of specs/Ticks. Assumes nothing.
+use mathlib.Core.Path.{sym, _∙_, subst}
 use mathlib.Core.List.{_∷_, _++_, append-assoc}
 use Rattle.method.specs.Types.{State}
-use Rattle.method.specs.Event.{read}
-use Rattle.method.specs.CalledFor.{Right, reached}
-use Rattle.method.specs.Sound.{Sound}
-use Rattle.method.specs.Rules.{tick-taken, quote-taken}
-use Rattle.method.specs.Ticks.{TicksAreFree, FreeFromSound, TwoLooksAreOne, TickAcceptable, RepeatAcceptable, ThinnedIsSame, AlikeIsSame, PutIsAlike}
+use Rattle.method.specs.Sound.{Proper}
+use Rattle.method.specs.Rule1Words.{Unknown, tick-taken, quote-taken}
+use Rattle.method.specs.Sessions.{Opens}
+use Rattle.method.specs.Ticks.{Repeats, TicksAreFree, TickAcceptable, RepeatAcceptable, ThinnedIsSame, AlikeIsSame, PutIsAlike}
+use Rattle.method.proofs.TableAnswered.{answered-table}
 use Rattle.method.proofs.EventAnswered.{answered-verdict}
-use Rattle.method.proofs.Answers.{sound-opening, sound-reached}
+use Rattle.method.proofs.OneSession.{told-from, opens-proper, run-in-words}
 use Rattle.method.proofs.Acceptable.{repeat-open, in-session-between}
-use Rattle.method.proofs.Repeats.{still-read}
-use Rattle.method.proofs.Looks.{two-looks}
-use Rattle.method.proofs.SameRun.{same-back, same-on, thinned-run, same-answers}
-use Rattle.method.proofs.Thinning.{after-past, whole, without-refused, with-it}
+use Rattle.method.proofs.Thinning.{after-past, whole, without-refused, with-it, thinned-same}
 
 -- ---- many at once
 pub thinned-is-same : ThinnedIsSame
-thinned-is-same s bs ds v t = same-answers s bs ds v (thinned-run v t)
+thinned-is-same s bs ds p t = thinned-same p t
 
 pub alike-is-same : AlikeIsSame
-alike-is-same s bs ds v a = same-answers s bs ds v (same-on (thinned-run v (a .one)) (same-back (thinned-run v (a .other))))
+alike-is-same s bs ds p a rs qs m n h k =
+    let its = run-in-words s (p .sound) (p .distinct) (a .common) in
+    let one = thinned-same p (a .one) rs _ m _ h its in
+    let other = thinned-same p (a .other) qs _ n _ k its in
+    (one .0 ∙ sym (other .0), one .1 ∙ sym (other .1))
 
 pub put-is-alike : PutIsAlike
-put-is-alike o v past told h b between f p rest =
-    let s : State = reached o past told in
-    let w : Sound s = sound-reached o past told v h in
+put-is-alike o p past told s h b between f put rest =
+    let w : Proper s = told-from o p h .proper in
     record {
       common = past ++ f ∷ rest;
-      one = rw append-assoc (after-past o past told h (without-refused s between (p .between-refused) (whole s (f ∷ rest) w)));
-      other = rw append-assoc (after-past o past told h (with-it s b between f rest w p));
+      one = rw append-assoc (after-past h (without-refused s between (put .between-refused) (whole s (f ∷ rest) w)));
+      other = rw append-assoc (after-past h (with-it s b between f rest w put));
     }
 
 -- ---- one event put in
-pub free-from-sound : FreeFromSound
-free-from-sound o v past told h b between f p rest = alike-is-same o _ _ v (put-is-alike o v past told h b between f p rest)
+pub free-from-kept : TicksAreFree Proper
+free-from-kept o p past told s h b between f put rest = alike-is-same o _ _ p (put-is-alike o p past told s h b between f put rest)
 
-pub ticks-are-free : TicksAreFree
-ticks-are-free table o e = free-from-sound o (sound-opening table o e)
-
-pub two-looks-are-one : TwoLooksAreOne
-unfolding Right
-two-looks-are-one s b f cs ds v n r k = two-looks s v (read b) (read f) cs (still-read s b n) (r .0) ds (r .1) k
+pub ticks-are-free : TicksAreFree Opens
+ticks-are-free o q = free-from-kept o (opens-proper o q)
 
 -- ---- that there is always such an event
 pub tick-acceptable : TickAcceptable
-tick-acceptable s b f t a c l = answered-verdict s b (tick-taken t (in-session-between s b f a c l))
+tick-acceptable s b f t a c l = tick-taken t (in-session-between s b f (answered-verdict s f a) c l)
 
 pub repeat-acceptable : RepeatAcceptable
-repeat-acceptable table o e past told h b f r its a c l =
-    let s = reached o past told in
-    answered-verdict s b (quote-taken (r .quote) (in-session-between s b f a c l) its (repeat-open table o e past told h b r its))
+repeat-acceptable o q past told s h b f r its a c l =
+    let w = told-from o (opens-proper o q) h in
+    let open-book = repeat-open (q .table) o (answered-table (q .table) (q .opened-by)) past told (w .answers) b
+    (subst (λ (k : State). Repeats k b) (w .is) r) (subst (λ (k : State). Unknown k b → ⊥) (w .is) its) in
+    quote-taken (r .quote) (in-session-between s b f (answered-verdict s f a) c l) its open-book

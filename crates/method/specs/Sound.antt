@@ -1,4 +1,4 @@
--- What holds of a session at opening and after every event.
+-- What holds of a session at opening and after every event, and of every state from which one may be taken up.
 use mathlib.Core.Path.{_≡_}
 use mathlib.Core.Bool.{Bool, true, false, _&&_}
 use mathlib.Core.List.{List, [], _∷_}
@@ -7,7 +7,8 @@ use lib.Dec.{ltb}
 use Rattle.method.specs.Types.{Side, Millionths, Hold, Idle, Since, Line, State}
 use Rattle.method.specs.Pressure.{hold-of, presses}
 use Rattle.method.specs.CalledFor.{Done}
-use Rattle.method.specs.Ranges.{Every}
+use Rattle.method.specs.Opening.{ids}
+use Rattle.method.specs.Ranges.{Every, Sane}
 
 abbrev pub standing : Hold → Bool
 standing Idle = false
@@ -27,3 +28,10 @@ pub record Sound (s : State) : Type 0 where
 unfoldable pub Distinct : List ℕ → Type 0
 Distinct [] = Unit {0}
 Distinct (i ∷ is) = Every (λ j. j ≡ i → ⊥) is × Distinct is
+
+-- All of it: ranges, holds and ids. A state that a host has kept of a session is proper, and so is whatever stands in memory of which the same
+-- is tested.
+pub record Proper (s : State) : Type 0 where
+  pub sane : Sane s
+  pub sound : Sound s
+  pub distinct : Distinct (ids (s .lines))
