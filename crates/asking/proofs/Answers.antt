@@ -4,8 +4,8 @@ use mathlib.Core.Bool.{Bool, true, false, cond}
 use mathlib.Core.List.{List, [], _∷_}
 use lib.IntN.{ℤ, pos}
 use lib.ListN.{getD}
-use Rattle.method.specs.Refusals.{event-number, limits-said, report-said}
-use Rattle.method.specs.Program.{row-numbers}
+use Rattle.method.specs.told.Refusals.{event-number, limits-said, report-said}
+use Rattle.method.specs.told.Rows.{row-numbers}
 use Rattle.method.specs.declared.Row.the-variants as Row
 use Rattle.reporting.specs.Told.{report-rows}
 use Rattle.asking.specs.Names.{Limits, EventReason, LimitsAnswer, Report, ReportAnswer}

@@ -3,7 +3,7 @@ use mathlib.Core.Bool.{cond}
 use mathlib.Core.List.{List}
 use lib.Dec.{eqb}
 use lib.IntN.{ℤ, pos, negsuc}
-use Rattle.method.specs.Refusals.{Said, event-number}
+use Rattle.method.specs.told.Refusals.{Said, event-number}
 use Rattle.reporting.specs.Told.{report-rows}
 use Rattle.asking.specs.Names.{PlaceAnswer, ReportAnswer}
 

@@ -4,11 +4,11 @@
 ghost use mathlib.Core.Path.{_≡_};
 ghost use Prim.Native.Nat.{_≤_};
 ghost use lib.IntN.{pos};
-ghost use Rattle.method.specs.Types.{steps};
-ghost use Rattle.method.specs.Event.{limits, place};
-ghost use Rattle.method.specs.Refusals.{limits-said, report-said};
-ghost use Rattle.method.specs.Report.{line-report, report};
-ghost use Rattle.method.specs.Ranges.{Room};
+ghost use Rattle.method.specs.words.Types.{steps};
+ghost use Rattle.method.specs.told.Refusals.{limits-said, report-said};
+ghost use Rattle.method.specs.told.Questions.{limits, place};
+ghost use Rattle.method.specs.told.Report.{line-report, report};
+ghost use Rattle.method.specs.computed.Rooms.{Room};
 ghost use Rattle.corridor.specs.View.{view, Valid};
 ghost use Rattle.corridor.specs.Asked.{sought};
 ghost use Rattle.memory.specs.Memory.{session-in};

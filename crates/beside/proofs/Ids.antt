@@ -6,8 +6,8 @@ use native.Mathlib.Numerals.{add-one}
 use native.Mathlib.Omega.{arith}
 use lib.ListN.{length, getD, drop, length-drop}
 use lib.Seq.{drop-cons, drop-length, getD-drop}
-use Rattle.method.specs.Ranges.{Every}
-use Rattle.method.specs.Sound.{Distinct}
+use Rattle.method.specs.words.Ranges.{Every}
+use Rattle.method.specs.computed.Sound.{Distinct}
 use Rattle.method.proofs.Every.{every-at}
 use Rattle.beside.specs.Without.{Without}
 

@@ -2,7 +2,7 @@
 use mathlib.Core.Path.{_≡_}
 use mathlib.Core.List.{List}
 use Prim.Native.Nat.{ℕ}
-use Rattle.method.specs.Ranges.{Every}
+use Rattle.method.specs.words.Ranges.{Every}
 
 abbrev pub Without : ℕ → List ℕ → Type 0
 Without id ids = Every (λ j. j ≡ id → ⊥) ids

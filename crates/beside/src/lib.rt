@@ -4,7 +4,7 @@
 ghost use Prim.Native.Nat.{_≤_};
 ghost use lib.ListN.{length, drop};
 ghost use Rattle.numbers.specs.Decides.{Decides};
-ghost use Rattle.method.specs.Sound.{Distinct};
+ghost use Rattle.method.specs.computed.Sound.{Distinct};
 ghost use Rattle.beside.specs.Beside.{Beside};
 ghost use Rattle.beside.specs.Without.{Without};
 use numbers::Millionths;

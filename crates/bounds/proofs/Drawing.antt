@@ -9,7 +9,7 @@ use mir.Val.{SFits}
 use Rattle.numbers.specs.Ranges.{Within}
 use Rattle.numbers.proofs.Ranges.{fits, within-add, within-sub, within-mul, within-pos}
 use Rattle.numbers.proofs.Machine.{cast-back}
-use Rattle.method.specs.Bounds.{market-bound, factor, interest, bound}
+use Rattle.method.specs.words.Bounds.{market-bound, factor, interest, bound}
 use Rattle.method.proofs.Rooms.{factor-in, interest-within}
 use Rattle.bounds.specs.Names.{Side, Up, Down, Terms, Market}
 use Rattle.bounds.specs.Rounding.{rounded}

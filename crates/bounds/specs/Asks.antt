@@ -1,6 +1,6 @@
 -- What an interest bound asks, and its callers show.
 use Rattle.numbers.specs.Ranges.{Within}
-use Rattle.method.specs.Ranges.{FactorsIn}
+use Rattle.method.specs.computed.Rooms.{FactorsIn}
 use Rattle.bounds.specs.Names.{Terms, Market}
 
 pub record Drawn (t : Terms) (m : Market) : Type 0 where

@@ -3,7 +3,7 @@
 ghost use mathlib.Core.Path.{_≡_};
 ghost use Prim.Native.Nat.{_≤_};
 ghost use Rattle.numbers.specs.Ranges.{Within};
-ghost use Rattle.method.specs.Bounds.{market-bound, factor, interest, bound};
+ghost use Rattle.method.specs.words.Bounds.{market-bound, factor, interest, bound};
 ghost use Rattle.bounds.specs.Asks.{Drawn};
 use method::Market;
 use method::Side;

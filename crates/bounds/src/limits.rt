@@ -1,7 +1,7 @@
 // The floor of one step under a lower limit, at opening and at every shift down.
 
 ghost use mathlib.Core.Path.{_≡_};
-ghost use Rattle.method.specs.Opening.{floored};
+ghost use Rattle.method.specs.words.Opening.{floored};
 use method::Limits;
 use numbers::Steps;
 

@@ -6,7 +6,7 @@ use native.Mathlib.Omega.{arith}
 use lib.IntN.{ℤ}
 use borrow.Author.Tests.{le-ltb}
 use lib.ListN.{length, length-map}
-use Rattle.method.specs.Program.{closing-row}
+use Rattle.method.specs.told.Rows.{closing-row}
 use Rattle.rows.specs.Buffer.{written}
 use Rattle.rows.proofs.Buffer.{numbers-long}
 use Rattle.corridor.specs.declared.Session.{Session}

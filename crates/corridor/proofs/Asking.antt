@@ -6,11 +6,10 @@ use Prim.Native.Nat.{ℕ}
 use native.Mathlib.Omega.{arith}
 use lib.Dec.{eqb}
 use lib.ListN.{getD}
-use Rattle.method.specs.Types.{State, blank, demand}
-use Rattle.method.specs.Opening.{known}
-use Rattle.method.specs.Event.{line-of, limits, placed, place}
-use Rattle.method.specs.Report.{line-report, report}
-use Rattle.method.specs.Ranges.{Every}
+use Rattle.method.specs.words.Types.{State, blank, demand}
+use Rattle.method.specs.words.Ranges.{Every}
+use Rattle.method.specs.told.Questions.{known, line-of, limits, placed, place}
+use Rattle.method.specs.told.Report.{line-report, report}
 use Rattle.corridor.specs.Names.{Steps, Line, EventReason, LimitsAnswer, PlaceAnswer, ReportAnswer}
 use Rattle.corridor.specs.declared.Session.{Session}
 use Rattle.corridor.specs.declared.questions.Sought.{Sought}

@@ -9,14 +9,16 @@ use lib.Dec.{ltb}
 use lib.IntN.{ℤ}
 use lib.ListN.{length, take, drop, length-append, length-drop, length-map}
 use lib.Seq.{take-append-le, drop-append-le}
-use Rattle.method.specs.Types.{State}
-use Rattle.method.specs.Event.{read, Answer, accepted, refused, next}
-use Rattle.method.specs.CalledFor.{Right, Answers, joined}
-use Rattle.method.specs.Search.{answer, run, finally}
-use Rattle.method.specs.Ranges.{Sane}
-use Rattle.method.specs.Opening.{ids}
-use Rattle.method.specs.Sound.{Sound}
-use Rattle.method.specs.Program.{rows-of, rows-of-all, pieces, events-of, numbers-of}
+use Rattle.method.specs.words.Types.{State}
+use Rattle.method.specs.words.Sessions.{Answer, accepted, refused, joined}
+use Rattle.method.specs.told.Rows.{rows-of, rows-of-all, numbers-of}
+use Rattle.method.specs.told.Program.{pieces, events-of}
+use Rattle.method.specs.computed.Opening.{ids}
+use Rattle.method.specs.computed.Event.{read, next}
+use Rattle.method.specs.computed.Relation.{Right, Answers}
+use Rattle.method.specs.computed.Search.{answer, run, finally}
+use Rattle.method.specs.computed.Rooms.{Sane}
+use Rattle.method.specs.computed.Sound.{Sound}
 use Rattle.method.specs.declared.Row.the-variants as Row
 use Rattle.method.proofs.Answers.{next-sound, run-right, answers-count, run-append, finally-append}
 use Rattle.method.proofs.Demands.{by-cond}

@@ -9,9 +9,9 @@ use lib.Dec.{ltb, leb}
 use lib.ListN.{length, getD, take, drop}
 use borrow.Author.Tests.{ltb-true, leb-false}
 use Rattle.numbers.proofs.Arrays.{passing, all-passed}
-use Rattle.method.specs.Types.{State, blank}
-use Rattle.method.specs.Ranges.{HoldsIn}
-use Rattle.method.specs.Search.{due-of, ahead, sooner, passed, earliest, in-time, next-due}
+use Rattle.method.specs.words.Types.{State, blank}
+use Rattle.method.specs.computed.Search.{due-of, ahead, sooner, passed, earliest, in-time, next-due}
+use Rattle.method.specs.computed.Rooms.{HoldsIn}
 use Rattle.holds.proofs.Rooms.{room-passes}
 use Rattle.corridor.specs.Names.{Side, Up, Down, Seconds, Hold, Idle, Since, Holds, Line, Due, Found, Nothing, At}
 use Rattle.corridor.specs.declared.Session.{Session}

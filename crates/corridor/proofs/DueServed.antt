@@ -7,9 +7,9 @@ use lib.ListN.{length, getD, set, replicate, length-append}
 use lib.Seq.{getD-take}
 use Rattle.numbers.specs.Arrays.{padded}
 use Rattle.numbers.proofs.Arrays.{padded-set}
-use Rattle.method.specs.Types.{State, blank}
-use Rattle.method.specs.Shift.{shifted, onward, after}
-use Rattle.method.specs.Search.{in-time, next-due, called, serve}
+use Rattle.method.specs.words.Types.{State, blank}
+use Rattle.method.specs.computed.Shift.{shifted, onward, after}
+use Rattle.method.specs.computed.Search.{in-time, next-due, called, serve}
 use Rattle.method.proofs.Serving.{serve-calls}
 use Rattle.method.proofs.Later.{sane-after}
 use Rattle.corridor.specs.Names.{Seconds, ShiftLine, Due, Found, Nothing, At}

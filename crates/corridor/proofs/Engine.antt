@@ -3,12 +3,14 @@ use mathlib.Core.Path.{_≡_, refl, sym, ap, subst, _∙_}
 use mathlib.Core.List.{List, [], _∷_}
 use Prim.Native.Nat.{ℕ}
 use Rattle.numbers.proofs.Arrays.{padded-take}
-use Rattle.method.specs.Types.{State}
-use Rattle.method.specs.Table.{opening}
-use Rattle.method.specs.Event.{read, Answer, accepted, refused, next}
-use Rattle.method.specs.CalledFor.{Answers, reached}
-use Rattle.method.specs.Search.{answer, run, finally}
-use Rattle.method.specs.Program.{rows-of-all, events-of, numbers-of}
+use Rattle.method.specs.words.Types.{State}
+use Rattle.method.specs.words.Sessions.{Answer, accepted, refused}
+use Rattle.method.specs.told.Rows.{rows-of-all, numbers-of}
+use Rattle.method.specs.told.Program.{events-of}
+use Rattle.method.specs.computed.Table.{opening}
+use Rattle.method.specs.computed.Event.{read, next}
+use Rattle.method.specs.computed.Relation.{Answers, reached}
+use Rattle.method.specs.computed.Search.{answer, run, finally}
 use Rattle.method.proofs.Answers.{sound-opening, run-right, finally-reached}
 use Rattle.corridor.specs.declared.Session.{Session}
 use Rattle.corridor.specs.View.{view, put, no-session, opened-session, Valid}

@@ -7,12 +7,13 @@ use lib.Dec.{eqb}
 use lib.ListN.{length, getD, set, drop, List·getD-append, length-set}
 use lib.Seq.{set-append-left}
 use Rattle.numbers.specs.Arrays.{padded}
-use Rattle.method.specs.Types.{State, blank}
-use Rattle.method.specs.Shift.{with-lines, after}
-use Rattle.method.specs.Event.{read, verdict, with-book, quoted-line, quoted, applied, Answer, next}
-use Rattle.method.specs.CalledFor.{time}
-use Rattle.method.specs.Search.{serve, answer}
-use Rattle.method.specs.Ranges.{PriceIn, EventIn}
+use Rattle.method.specs.words.Types.{State, blank}
+use Rattle.method.specs.words.Sessions.{Answer}
+use Rattle.method.specs.computed.Shift.{with-lines, after}
+use Rattle.method.specs.computed.Event.{read, verdict, with-book, quoted-line, quoted, applied, next}
+use Rattle.method.specs.computed.Relation.{time}
+use Rattle.method.specs.computed.Search.{serve, answer}
+use Rattle.method.specs.computed.Rooms.{PriceIn, EventIn}
 use Rattle.method.proofs.Demands.{by-cond}
 use Rattle.method.proofs.Events.{read-in}
 use Rattle.verdict.specs.declared.Change.{Change}

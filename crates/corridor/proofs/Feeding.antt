@@ -10,11 +10,13 @@ use lib.IntN.{ℤ}
 use lib.ListN.{length, take, drop, length-append, length-drop, length-map}
 use lib.Seq.{drop-length}
 use Rattle.numbers.proofs.Arrays.{padded-take}
-use Rattle.method.specs.Types.{State}
-use Rattle.method.specs.Event.{read, Answer, accepted, refused, next}
-use Rattle.method.specs.CalledFor.{Right, Answers}
-use Rattle.method.specs.Search.{answer, run, finally}
-use Rattle.method.specs.Program.{rows-of, rows-of-all, pieces, events-of, numbers-of}
+use Rattle.method.specs.words.Types.{State}
+use Rattle.method.specs.words.Sessions.{Answer, accepted, refused}
+use Rattle.method.specs.told.Rows.{rows-of, rows-of-all, numbers-of}
+use Rattle.method.specs.told.Program.{pieces, events-of}
+use Rattle.method.specs.computed.Event.{read, next}
+use Rattle.method.specs.computed.Relation.{Right, Answers}
+use Rattle.method.specs.computed.Search.{answer, run, finally}
 use Rattle.method.specs.declared.Row.{Row}
 use Rattle.method.specs.declared.Row.the-variants as Row
 use Rattle.method.proofs.Answers.{next-count, run-right}

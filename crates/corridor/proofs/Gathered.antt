@@ -7,11 +7,12 @@ use native.Mathlib.Omega.{arith}
 use lib.Dec.{eqb}
 use lib.ListN.{length, getD, set, take, replicate, length-set}
 use lib.Seq.{take-suc, take-suc-set}
-use Rattle.method.specs.Types.{State, blank}
-use Rattle.method.specs.Opening.{ids}
-use Rattle.method.specs.Pressure.{judge}
-use Rattle.method.specs.Shift.{shifted, onward, after}
-use Rattle.method.specs.Event.{quoted-line, quoted, applied, Answer, accepted, refused, next}
+use Rattle.method.specs.words.Types.{State, blank}
+use Rattle.method.specs.words.Sessions.{Answer, accepted, refused}
+use Rattle.method.specs.computed.Opening.{ids}
+use Rattle.method.specs.computed.Judge.{judge}
+use Rattle.method.specs.computed.Shift.{shifted, onward, after}
+use Rattle.method.specs.computed.Event.{quoted-line, quoted, applied, next}
 use Rattle.method.proofs.Demands.{by-cond}
 use Rattle.method.proofs.Events.{ids-shifted}
 use Rattle.corridor.specs.Names.{Millionths, Line, Quote, Event, Damaged, Tick, Quoted, ShiftLine}

@@ -5,8 +5,9 @@ use Prim.Native.Nat.{ℕ, _*_, _/_, _%_}
 use native.Mathlib.Omega.{arith}
 use lib.IntN.{ℤ}
 use lib.ListN.{length}
-use Rattle.method.specs.Search.{run, finally}
-use Rattle.method.specs.Program.{rows-of-all, pieces}
+use Rattle.method.specs.told.Rows.{rows-of-all}
+use Rattle.method.specs.told.Program.{pieces}
+use Rattle.method.specs.computed.Search.{run, finally}
 use Rattle.corridor.specs.declared.Session.{Session}
 use Rattle.corridor.specs.View.{Valid}
 use Rattle.corridor.specs.Feeding.{told, left-by}

@@ -10,11 +10,11 @@ use borrow.Author.Tests.{eq-eqb, ne-eqb}
 use lib.ListN.{length, getD, set, drop}
 use lib.Seq.{getD-take}
 use Rattle.numbers.proofs.Arrays.{passing, all-passed}
-use Rattle.method.specs.Types.{State, blank}
-use Rattle.method.specs.Opening.{known}
-use Rattle.method.specs.Pressure.{judge}
-use Rattle.method.specs.Shift.{moved-line, shift-line, shifted, onward, after}
-use Rattle.method.specs.Event.{quoted-line, quoted, line-of}
+use Rattle.method.specs.words.Types.{State, blank}
+use Rattle.method.specs.told.Questions.{known, line-of}
+use Rattle.method.specs.computed.Judge.{judge}
+use Rattle.method.specs.computed.Shift.{moved-line, shift-line, shifted, onward, after}
+use Rattle.method.specs.computed.Event.{quoted-line, quoted}
 use Rattle.corridor.specs.Names.{Millionths, Seconds, Side, Line, Quote, ShiftLine}
 use Rattle.corridor.specs.declared.Session.{Session}
 use Rattle.corridor.specs.View.{view, Valid}

@@ -4,8 +4,9 @@ use mathlib.Core.List.{List, _++_}
 use Prim.Native.Nat.{ℕ, zero, suc, _-_}
 use native.Mathlib.Omega.{arith}
 use lib.ListN.{length, drop, replicate}
-use Rattle.method.specs.Types.{State, blank, seconds}
-use Rattle.method.specs.Table.{Opening, opened, refused, opening}
+use Rattle.method.specs.words.Types.{State, blank, seconds}
+use Rattle.method.specs.words.Tables.{Opening, opened, refused}
+use Rattle.method.specs.computed.Table.{opening}
 use Rattle.method.proofs.Table.{accepted-table}
 use Rattle.table.specs.declared.Opened.{Opened as Table}
 use Rattle.table.specs.Opened.{opened-as}

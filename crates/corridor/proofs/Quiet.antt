@@ -10,11 +10,12 @@ use lib.Dec.{eqb, ltb}
 use lib.ListN.{length, getD, set, take, drop}
 use lib.Seq.{getD-set-same, getD-set-other}
 use Rattle.numbers.proofs.Arrays.{passing, all-passed}
-use Rattle.method.specs.Types.{State, blank, seconds}
-use Rattle.method.specs.Pressure.{hold-of}
-use Rattle.method.specs.Event.{applied}
-use Rattle.method.specs.CalledFor.{Stands, Calls, Done}
-use Rattle.method.specs.Search.{serve}
+use Rattle.method.specs.words.Types.{State, blank, seconds}
+use Rattle.method.specs.words.Pressure.{hold-of}
+use Rattle.method.specs.words.Holds.{Stands, Done}
+use Rattle.method.specs.computed.Event.{applied}
+use Rattle.method.specs.computed.Relation.{Calls}
+use Rattle.method.specs.computed.Search.{serve}
 use Rattle.method.proofs.HoldLife.{Judged, no-since, blank-idle}
 use Rattle.method.proofs.Serving.{serve-calls, calls-unique}
 use Rattle.method.proofs.Answers.{applied-kept}

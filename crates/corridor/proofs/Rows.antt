@@ -5,8 +5,8 @@ use Prim.Native.Nat.{ℕ, zero, suc, _<_}
 use native.Mathlib.Omega.{arith}
 use lib.ListN.{length, getD, set, take, drop}
 use lib.Seq.{length-take-le, getD-take}
-use Rattle.method.specs.Types.{blank}
-use Rattle.method.specs.Ranges.{Room}
+use Rattle.method.specs.words.Types.{blank}
+use Rattle.method.specs.computed.Rooms.{Room}
 use Rattle.method.proofs.Every.{every-at}
 use Rattle.corridor.specs.declared.Session.{Session}
 use Rattle.corridor.specs.View.{Ranged}

@@ -5,8 +5,8 @@ use Prim.Native.Nat.{ℕ, _+_, _-_, _≤_, _<_}
 use native.Mathlib.Numerals.{add-one}
 use native.Mathlib.Omega.{arith}
 use lib.ListN.{length, getD, set, take, drop, length-map}
-use Rattle.method.specs.Types.{State, blank}
-use Rattle.method.specs.Shift.{shift-line, shifted, onward, after}
+use Rattle.method.specs.words.Types.{State, blank}
+use Rattle.method.specs.computed.Shift.{shift-line, shifted, onward, after}
 use Rattle.method.proofs.Sane.{sane-shifted}
 use Rattle.corridor.specs.Names.{Side, Seconds, Line, ShiftLine}
 use Rattle.corridor.specs.declared.Session.{Session}

@@ -4,15 +4,19 @@ use mathlib.Core.List.{List, [], _∷_}
 use Prim.Native.Nat.{ℕ, _<_}
 use native.Mathlib.Omega.{arith}
 use lib.IntN.{pos}
-use Rattle.method.specs.Types.{State, seconds}
-use Rattle.method.specs.Refusals.{table-number, event-number, table-said, event-said}
-use Rattle.method.specs.Table.{Opening, opened, opening}
-use Rattle.method.specs.Event.{read, Answer, accepted, refused, next}
-use Rattle.method.specs.CalledFor.{Done, Right, Answers}
-use Rattle.method.specs.Search.{answer, run}
-use Rattle.method.specs.Ranges.{Every, OpeningIn}
-use Rattle.method.specs.Opening.{ids}
-use Rattle.method.specs.Sound.{Sound, Distinct}
+use Rattle.method.specs.words.Types.{State, seconds}
+use Rattle.method.specs.words.Ranges.{Every}
+use Rattle.method.specs.words.Tables.{Opening, opened}
+use Rattle.method.specs.words.Holds.{Done}
+use Rattle.method.specs.words.Sessions.{Answer, accepted, refused}
+use Rattle.method.specs.told.Refusals.{table-number, event-number, table-said, event-said}
+use Rattle.method.specs.computed.Opening.{ids}
+use Rattle.method.specs.computed.Table.{opening}
+use Rattle.method.specs.computed.Event.{read, next}
+use Rattle.method.specs.computed.Relation.{Right, Answers}
+use Rattle.method.specs.computed.Search.{answer, run}
+use Rattle.method.specs.computed.Rooms.{OpeningIn}
+use Rattle.method.specs.computed.Sound.{Sound, Distinct}
 use Rattle.method.proofs.Table.{accepted-table}
 use Rattle.method.proofs.Sane.{sane-opening}
 use Rattle.method.proofs.Books.{distinct-opening}

@@ -6,15 +6,15 @@ use native.Mathlib.Omega.{arith}
 use lib.IntN.{ℤ}
 use lib.ListN.{length, getD, set, take, drop, replicate}
 use lib.Seq.{getD-take, getD-set-same}
-use Rattle.method.specs.Types.{State, blank, seconds}
-use Rattle.method.specs.Opening.{ids}
-use Rattle.method.specs.Shift.{after}
-use Rattle.method.specs.Event.{read, verdict, quoted-line, applied}
-use Rattle.method.specs.CalledFor.{time}
-use Rattle.method.specs.Search.{serve}
-use Rattle.method.specs.Program.{row-numbers, numbers-of}
+use Rattle.method.specs.words.Types.{State, blank, seconds}
+use Rattle.method.specs.told.Rows.{row-numbers, numbers-of}
+use Rattle.method.specs.computed.Opening.{ids}
+use Rattle.method.specs.computed.Shift.{after}
+use Rattle.method.specs.computed.Event.{read, verdict, quoted-line, applied}
+use Rattle.method.specs.computed.Relation.{time}
+use Rattle.method.specs.computed.Search.{serve}
+use Rattle.method.specs.computed.Rooms.{HoldsIn}
 use Rattle.method.specs.declared.Row.the-variants as Row
-use Rattle.method.specs.Ranges.{HoldsIn}
 use Rattle.method.proofs.Serving.{serve-calls, calls-left}
 use Rattle.rows.specs.Buffer.{written}
 use Rattle.rows.proofs.Buffer.{nothing-written, numbers-one}

@@ -5,10 +5,10 @@ use Prim.Native.Nat.{ℕ, _-_, _≤_}
 use native.Mathlib.Omega.{arith}
 use lib.ListN.{length, take, drop, length-append, length-drop, take-append-drop}
 use lib.Seq.{take-append-seam, drop-append-seam, length-take-le}
-use Rattle.method.specs.Types.{State}
-use Rattle.method.specs.Ranges.{Sane}
-use Rattle.method.specs.Opening.{ids}
-use Rattle.method.specs.Sound.{Sound, Distinct}
+use Rattle.method.specs.words.Types.{State}
+use Rattle.method.specs.computed.Opening.{ids}
+use Rattle.method.specs.computed.Rooms.{Sane}
+use Rattle.method.specs.computed.Sound.{Sound, Distinct}
 use Rattle.corridor.specs.Names.{Line}
 use Rattle.corridor.specs.declared.Session.{Session}
 use Rattle.corridor.specs.View.{view, put, Ranged, Valid}

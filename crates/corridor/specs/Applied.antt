@@ -2,8 +2,8 @@
 use mathlib.Core.List.{List}
 use Prim.Native.Nat.{_<_}
 use lib.ListN.{getD, set}
-use Rattle.method.specs.Types.{blank}
-use Rattle.method.specs.Event.{with-book, quoted-line}
+use Rattle.method.specs.words.Types.{blank}
+use Rattle.method.specs.computed.Event.{with-book, quoted-line}
 use Rattle.verdict.specs.declared.Change.{Change}
 use Rattle.verdict.specs.declared.Taken.{Taken}
 use Rattle.pressure.specs.Asks.{Pressed}

@@ -5,7 +5,7 @@ use Prim.Native.Nat.{ℕ, _*_}
 use lib.Dec.{ltb}
 use lib.IntN.{ℤ}
 use lib.ListN.{length}
-use Rattle.method.specs.Program.{closing-row, numbers-of}
+use Rattle.method.specs.told.Rows.{closing-row, numbers-of}
 use Rattle.rows.specs.Buffer.{written}
 use Rattle.corridor.specs.declared.Session.{Session}
 use Rattle.corridor.specs.declared.RowsAnswer.{RowsAnswer}

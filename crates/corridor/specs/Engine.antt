@@ -4,12 +4,15 @@ use mathlib.Core.Path.{_≡_}
 use mathlib.Core.List.{List, [], _∷_}
 use Prim.Native.Nat.{ℕ}
 use lib.ListN.{take}
-use Rattle.method.specs.Types.{State}
-use Rattle.method.specs.Table.{opened, opening}
-use Rattle.method.specs.Event.{read, Answer}
-use Rattle.method.specs.CalledFor.{Answers, reached}
-use Rattle.method.specs.Search.{answered, answer}
-use Rattle.method.specs.Program.{rows-of-all, events-of, numbers-of}
+use Rattle.method.specs.words.Types.{State}
+use Rattle.method.specs.words.Tables.{opened}
+use Rattle.method.specs.words.Sessions.{Answer}
+use Rattle.method.specs.told.Rows.{rows-of-all, numbers-of}
+use Rattle.method.specs.told.Program.{events-of}
+use Rattle.method.specs.computed.Table.{opening}
+use Rattle.method.specs.computed.Event.{read}
+use Rattle.method.specs.computed.Relation.{Answers, reached}
+use Rattle.method.specs.computed.Search.{answered, answer}
 use Rattle.corridor.specs.declared.Session.{Session}
 use Rattle.corridor.specs.declared.Reply.{Reply}
 use Rattle.corridor.specs.View.{view, opened-session, Valid}

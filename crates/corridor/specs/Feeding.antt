@@ -5,9 +5,10 @@ use Prim.Native.Nat.{ℕ}
 use lib.Dec.{ltb}
 use lib.IntN.{ℤ}
 use lib.ListN.{length}
-use Rattle.method.specs.Types.{State}
-use Rattle.method.specs.Search.{run, finally}
-use Rattle.method.specs.Program.{rows-of-all, events-of, numbers-of}
+use Rattle.method.specs.words.Types.{State}
+use Rattle.method.specs.told.Rows.{rows-of-all, numbers-of}
+use Rattle.method.specs.told.Program.{events-of}
+use Rattle.method.specs.computed.Search.{run, finally}
 use Rattle.rows.specs.Buffer.{written, room as rows-room}
 use Rattle.corridor.specs.declared.Session.{Session}
 use Rattle.corridor.specs.declared.RowsAnswer.{RowsAnswer}

@@ -1,5 +1,5 @@
 -- A second before which no hold falls due, so that nothing has to be searched for before it.
-use Rattle.method.specs.Types.{State, seconds}
+use Rattle.method.specs.words.Types.{State, seconds}
 use Rattle.due.specs.Quiet.{until-all}
 use Rattle.corridor.specs.Names.{Seconds}
 

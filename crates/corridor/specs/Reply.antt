@@ -2,9 +2,10 @@
 use mathlib.Core.List.{List}
 use lib.ListN.{length, replicate}
 use Rattle.numbers.specs.Arrays.{padded}
-use Rattle.method.specs.Types.{seconds}
-use Rattle.method.specs.Shift.{after}
-use Rattle.method.specs.Event.{Answer, accepted, refused, next}
+use Rattle.method.specs.words.Types.{seconds}
+use Rattle.method.specs.words.Sessions.{Answer, accepted, refused}
+use Rattle.method.specs.computed.Shift.{after}
+use Rattle.method.specs.computed.Event.{next}
 use Rattle.corridor.specs.Names.{Up, ShiftLine, Event, EventAnswer, EventReason}
 use Rattle.corridor.specs.declared.Session.{Session}
 use Rattle.corridor.specs.declared.Served.{Served}

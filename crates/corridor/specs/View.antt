@@ -4,11 +4,11 @@ use mathlib.Core.Path.{_≡_}
 use mathlib.Core.List.{_++_}
 use Prim.Native.Nat.{_≤_}
 use lib.ListN.{length, take, drop, replicate}
-use Rattle.method.specs.Types.{State, blank, seconds, millionths}
-use Rattle.method.specs.Opening.{ids}
-use Rattle.method.specs.Table.{Opening, opened, refused}
-use Rattle.method.specs.Ranges.{Sane}
-use Rattle.method.specs.Sound.{Sound, Distinct}
+use Rattle.method.specs.words.Types.{State, blank, seconds, millionths}
+use Rattle.method.specs.words.Tables.{Opening, opened, refused}
+use Rattle.method.specs.computed.Opening.{ids}
+use Rattle.method.specs.computed.Rooms.{Sane}
+use Rattle.method.specs.computed.Sound.{Sound, Distinct}
 use Rattle.corridor.specs.Names.{TableAnswer}
 use Rattle.corridor.specs.declared.Session.{Session}
 use Rattle.corridor.specs.declared.Opened.{Opened}

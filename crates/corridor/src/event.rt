@@ -2,9 +2,9 @@
 
 ghost use mathlib.Core.Path.{_≡_};
 ghost use lib.ListN.{length, take};
-ghost use Rattle.method.specs.Opening.{ids};
-ghost use Rattle.method.specs.Event.{read};
-ghost use Rattle.method.specs.Search.{answer};
+ghost use Rattle.method.specs.computed.Opening.{ids};
+ghost use Rattle.method.specs.computed.Event.{read};
+ghost use Rattle.method.specs.computed.Search.{answer};
 ghost use Rattle.corridor.specs.View.{view, Ranged, Valid};
 ghost use Rattle.corridor.specs.Applied.{applied-to, Applies};
 ghost use Rattle.corridor.specs.Reply.{reply-of};

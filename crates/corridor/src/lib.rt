@@ -1,7 +1,7 @@
 // A session: opened from a morning table, it takes timed events and answers with shifts.
 
 ghost use mathlib.Core.Path.{_≡_};
-ghost use Rattle.method.specs.Table.{opening};
+ghost use Rattle.method.specs.computed.Table.{opening};
 ghost use Rattle.corridor.specs.View.{opened-session};
 use method::EventAnswer;
 use method::Line;

@@ -2,8 +2,8 @@
 // know no time.
 
 ghost use mathlib.Core.Path.{_≡_};
-ghost use Rattle.method.specs.Event.{limits, place};
-ghost use Rattle.method.specs.Report.{report};
+ghost use Rattle.method.specs.told.Questions.{limits, place};
+ghost use Rattle.method.specs.told.Report.{report};
 ghost use Rattle.corridor.specs.View.{view, Valid};
 ghost use Rattle.corridor.specs.Asked.{sought};
 use crate::Session;

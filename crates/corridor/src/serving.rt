@@ -2,8 +2,8 @@
 
 ghost use mathlib.Core.Path.{_≡_};
 ghost use Prim.Native.Nat.{_<_};
-ghost use Rattle.method.specs.Shift.{shifted};
-ghost use Rattle.method.specs.Search.{serve};
+ghost use Rattle.method.specs.computed.Shift.{shifted};
+ghost use Rattle.method.specs.computed.Search.{serve};
 ghost use Rattle.corridor.specs.View.{view, put, Ranged, Valid};
 ghost use Rattle.corridor.specs.Quiet.{quiet-until};
 ghost use Rattle.corridor.specs.Reply.{served-as};

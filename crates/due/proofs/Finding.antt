@@ -2,8 +2,8 @@
 use mathlib.Core.Path.{_≡_, refl, subst}
 use mathlib.Core.Bool.{Bool, true, false, cond}
 use Prim.Native.Nat.{ℕ, _≤_}
-use Rattle.method.specs.Ranges.{HoldIn}
-use Rattle.method.specs.Search.{in-time}
+use Rattle.method.specs.computed.Search.{in-time}
+use Rattle.method.specs.computed.Rooms.{HoldIn}
 use Rattle.numbers.specs.declared.Seconds.{Seconds}
 use Rattle.method.specs.declared.Hold.{Hold}
 use Rattle.method.specs.declared.Hold.the-variants.{Since}

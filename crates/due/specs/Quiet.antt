@@ -3,7 +3,7 @@ use mathlib.Core.Bool.{cond}
 use mathlib.Core.List.{List, [], _∷_}
 use Prim.Native.Nat.{_+_}
 use lib.Dec.{ltb}
-use Rattle.method.specs.Types.{Seconds, seconds}
+use Rattle.method.specs.words.Types.{Seconds, seconds}
 use Rattle.method.specs.declared.Hold.{Hold}
 use Rattle.method.specs.declared.Hold.the-variants.{Idle, Since}
 use Rattle.method.specs.declared.Holds.{Holds}

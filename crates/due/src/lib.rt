@@ -2,8 +2,8 @@
 
 ghost use mathlib.Core.Path.{_≡_};
 ghost use Prim.Native.Nat.{_≤_};
-ghost use Rattle.method.specs.Search.{due-of, ahead, sooner, passed, in-time};
-ghost use Rattle.method.specs.Ranges.{HoldIn, HoldsIn};
+ghost use Rattle.method.specs.computed.Search.{due-of, ahead, sooner, passed, in-time};
+ghost use Rattle.method.specs.computed.Rooms.{HoldIn, HoldsIn};
 ghost use Rattle.due.specs.Quiet.{nearer, until};
 use method::Due;
 use method::Found;

@@ -10,7 +10,7 @@ use borrow.Author.Tests.{ltb-true, ltb-false}
 use lib.Dec.{ltb}
 use lib.ListN.{length, take, drop, length-drop, drop-of-length-le}
 use lib.Seq.{take-all, drop-drop}
-use Rattle.method.specs.Program.{pieces, events-of}
+use Rattle.method.specs.told.Program.{pieces, events-of}
 use Rattle.events.specs.Cutting.{cut-at}
 
 more : (n : ℕ) → 0 < n → (n + 19) / 20 ≡ suc ((n - 20 + 19) / 20)

@@ -13,7 +13,7 @@ use Rattle.numbers.specs.Ranges.{Within}
 use Rattle.numbers.proofs.Halves.{zarith, apart}
 use Rattle.numbers.proofs.Ranges.{fits, within-sub, within-mul, within-pos}
 use Rattle.numbers.proofs.Machine.{cast-back, to-u64, of-u64}
-use Rattle.method.specs.Growth.{between-keys}
+use Rattle.method.specs.words.Growth.{between-keys}
 use Rattle.method.proofs.Growth.{pos-minus, RateIn, between-keys-in}
 use Rattle.growth.specs.Names.{Key}
 use Rattle.growth.specs.Asks.{Neighbours}

@@ -6,7 +6,7 @@ use native.Mathlib.Omega.{arith}
 use lib.IntN.{pos}
 use lib.ListN.{length, getD, take}
 use lib.Seq.{getD-take, length-take-le}
-use Rattle.method.specs.Growth.{between-keys, rate-by-keys, rate-at}
+use Rattle.method.specs.words.Growth.{between-keys, rate-by-keys, rate-at}
 use Rattle.growth.specs.Names.{Key}
 use Rattle.growth.specs.Asks.{Neighbours, Searched}
 use Rattle.growth.specs.Found.{found-line}

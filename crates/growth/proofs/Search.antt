@@ -10,8 +10,8 @@ use lib.Dec.{leb}
 use lib.IntN.{ℤ, pos}
 use lib.ListN.{length, getD, drop}
 use lib.Seq.{drop-cons, drop-length}
-use Rattle.method.specs.Growth.{between-keys, rate-from, rate-by-keys}
-use Rattle.method.specs.Ranges.{KeysIn}
+use Rattle.method.specs.words.Ranges.{KeysIn}
+use Rattle.method.specs.words.Growth.{between-keys, rate-from, rate-by-keys}
 use Rattle.growth.specs.Names.{Key}
 use Rattle.growth.specs.Found.{found-line}
 

@@ -4,7 +4,7 @@ use Prim.Native.Nat.{ℕ, suc, _+_, _*_, _/_, _≤_, _<_}
 use native.Mathlib.Nat.{div-le-of-le-mul, le-trans, mul-le-mul}
 use native.Mathlib.Numerals.{add-one}
 use native.Mathlib.Omega.{arith}
-use Rattle.method.specs.Growth.{most-exponent, term, series, up-factor}
+use Rattle.method.specs.words.Growth.{most-exponent, term, series, up-factor}
 
 -- after the k-th term
 pub record Summed (y a sum k : ℕ) : Type 0 where

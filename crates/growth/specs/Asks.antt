@@ -3,7 +3,7 @@ use mathlib.Core.List.{List}
 use Prim.Native.Nat.{ℕ, _≤_, _<_}
 use lib.ListN.{take}
 use Rattle.numbers.specs.Ranges.{Between}
-use Rattle.method.specs.Ranges.{KeysIn}
+use Rattle.method.specs.words.Ranges.{KeysIn}
 use Rattle.growth.specs.Names.{Key}
 
 -- two keys with the days left between them

@@ -7,8 +7,8 @@ use mir.Syntax.{w64}
 use mir.Val.{SFits}
 use Rattle.numbers.specs.Ranges.{Within}
 use Rattle.numbers.proofs.Ranges.{fits, within-more, within-add, within-sub}
-use Rattle.method.specs.Bounds.{bound}
-use Rattle.method.specs.Shift.{moved}
+use Rattle.method.specs.words.Bounds.{bound}
+use Rattle.method.specs.computed.Shift.{moved}
 use Rattle.bounds.specs.Asks.{Drawn}
 use Rattle.bounds.proofs.Drawing.{drawn-within}
 use Rattle.holds.specs.Names.{Side, Up, Down, Terms, Market, Limits, Line}

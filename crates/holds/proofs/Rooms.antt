@@ -2,9 +2,9 @@
 use Prim.Native.Nat.{ℕ, suc, _≤_}
 use native.Mathlib.Omega.{arith}
 use Rattle.numbers.proofs.Ranges.{within-more}
-use Rattle.method.specs.Shift.{moved-line}
-use Rattle.method.specs.Event.{with-book}
-use Rattle.method.specs.Ranges.{PriceIn, HoldsIn, Room}
+use Rattle.method.specs.computed.Shift.{moved-line}
+use Rattle.method.specs.computed.Event.{with-book}
+use Rattle.method.specs.computed.Rooms.{PriceIn, HoldsIn, Room}
 use Rattle.method.proofs.Rooms.{span-within, upper-in, lower-in, room-moved}
 use Rattle.pressure.specs.Asks.{LimitsWithin, Pressed}
 use Rattle.holds.specs.Names.{Side, Millionths, Price, Line}

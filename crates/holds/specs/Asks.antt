@@ -2,8 +2,8 @@
 use Prim.Native.Nat.{ℕ, suc, _≤_}
 use lib.IntN.{ℤ, _+ℤ_, _-ℤ_}
 use Rattle.numbers.specs.Ranges.{Within}
-use Rattle.method.specs.Types.{steps}
-use Rattle.method.specs.Ranges.{FactorsIn, Room}
+use Rattle.method.specs.words.Types.{steps}
+use Rattle.method.specs.computed.Rooms.{FactorsIn, Room}
 use Rattle.bounds.specs.Asks.{Drawn}
 use Rattle.pressure.specs.Asks.{LimitsWithin}
 use Rattle.holds.specs.Names.{Terms, Market, Millionths, Limits, Line}

@@ -2,8 +2,8 @@
 
 ghost use mathlib.Core.Path.{_≡_};
 ghost use Rattle.numbers.specs.Ranges.{Within};
-ghost use Rattle.method.specs.Shift.{toward, moved, redrawn, ended, moved-line, shift-line};
-ghost use Rattle.method.specs.Event.{with-book, quoted-line};
+ghost use Rattle.method.specs.computed.Shift.{toward, moved, redrawn, ended, moved-line, shift-line};
+ghost use Rattle.method.specs.computed.Event.{with-book, quoted-line};
 ghost use Rattle.pressure.specs.Asks.{Pressed};
 ghost use Rattle.holds.specs.Asks.{Movable, Carried, Redrawable, Shiftable, Shifts, raised-by, lowered-by};
 use bounds::limits;

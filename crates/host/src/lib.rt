@@ -6,11 +6,11 @@
 ghost use mathlib.Core.Path.{_≡_};
 ghost use lib.IntN.{pos};
 ghost use lib.ListN.{length};
-ghost use Rattle.method.specs.Types.{steps};
-ghost use Rattle.method.specs.Event.{limits, place};
-ghost use Rattle.method.specs.Refusals.{table-said, event-said, limits-said, report-said};
-ghost use Rattle.method.specs.Report.{report};
-ghost use Rattle.method.specs.Table.{opening};
+ghost use Rattle.method.specs.words.Types.{steps};
+ghost use Rattle.method.specs.told.Refusals.{table-said, event-said, limits-said, report-said};
+ghost use Rattle.method.specs.told.Questions.{limits, place};
+ghost use Rattle.method.specs.told.Report.{report};
+ghost use Rattle.method.specs.computed.Table.{opening};
 ghost use Rattle.rows.specs.Buffer.{written};
 ghost use Rattle.corridor.specs.View.{view, Valid, opened-session};
 ghost use Rattle.corridor.specs.Feeding.{fed, fed-into};

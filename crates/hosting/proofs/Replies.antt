@@ -5,12 +5,12 @@ use Prim.Native.Nat.{ℕ, _≤_}
 use native.Mathlib.Omega.{arith}
 use lib.IntN.{ℤ, pos}
 use lib.ListN.{length, getD, length-append}
-use Rattle.method.specs.Event.{read, Answer, accepted, refused}
-use Rattle.method.specs.CalledFor.{joined}
-use Rattle.method.specs.Search.{answer, run}
+use Rattle.method.specs.words.Sessions.{Answer, accepted, refused, joined}
+use Rattle.method.specs.told.Refusals.{table-said, event-said}
+use Rattle.method.specs.told.Rows.{row-numbers}
+use Rattle.method.specs.computed.Event.{read}
+use Rattle.method.specs.computed.Search.{answer, run}
 use Rattle.method.proofs.Answers.{run-right, answers-count}
-use Rattle.method.specs.Refusals.{table-said, event-said}
-use Rattle.method.specs.Program.{row-numbers}
 use Rattle.method.specs.declared.Row.the-variants as Row
 use Rattle.method.specs.declared.TableReason.{TableReason}
 use Rattle.method.specs.declared.Event.{Event}

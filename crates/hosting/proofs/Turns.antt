@@ -4,9 +4,9 @@ use mathlib.Core.List.{List, []}
 use Prim.Native.Nat.{ℕ, _<_}
 use native.Mathlib.Omega.{arith}
 use lib.ListN.{getD, replicate}
-use Rattle.method.specs.Types.{blank}
-use Rattle.method.specs.Event.{read, with-book}
-use Rattle.method.specs.Search.{serve}
+use Rattle.method.specs.words.Types.{blank}
+use Rattle.method.specs.computed.Event.{read, with-book}
+use Rattle.method.specs.computed.Search.{serve}
 use Rattle.method.specs.declared.Quote.{Quote}
 use Rattle.pressure.specs.Asks.{Pressed}
 use Rattle.verdict.specs.declared.Change.{Change}

@@ -4,7 +4,7 @@ use mathlib.Core.List.{List, map}
 use Prim.Native.Nat.{ℕ}
 use lib.IntN.{ℤ, pos}
 use lib.ListN.{take}
-use Rattle.method.specs.Program.{numbers-of}
+use Rattle.method.specs.told.Rows.{numbers-of}
 use Rattle.method.specs.declared.Row.the-variants as Row
 use Rattle.corridor.specs.declared.Reply.{Reply}
 use Rattle.corridor.specs.Engine.{reply-to}

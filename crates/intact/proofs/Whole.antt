@@ -6,9 +6,9 @@ use native.Mathlib.Omega.{arith}
 use lib.ListN.{length, take, length-map}
 use lib.Seq.{length-take-le}
 use Rattle.numbers.specs.declared.Millionths.{Millionths}
-use Rattle.method.specs.Opening.{ids}
-use Rattle.method.specs.Ranges.{Room}
-use Rattle.method.specs.Sound.{Exact, Distinct}
+use Rattle.method.specs.computed.Opening.{ids}
+use Rattle.method.specs.computed.Rooms.{Room}
+use Rattle.method.specs.computed.Sound.{Exact, Distinct}
 use Rattle.method.specs.declared.Line.{Line}
 use Rattle.method.specs.declared.Found.the-variants.{Nothing}
 use Rattle.soundness.proofs.Whole.{rows-all, all-rows, none-due-done, done-none-due}

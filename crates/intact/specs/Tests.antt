@@ -1,10 +1,10 @@
 -- What is tested of a session, one thing after the other.
 use Prim.Native.Nat.{ℕ, _<_}
 use lib.ListN.{getD}
-use Rattle.method.specs.Types.{State, blank}
-use Rattle.method.specs.Ranges.{Room}
-use Rattle.method.specs.Sound.{Exact}
-use Rattle.method.specs.Search.{earliest, in-time}
+use Rattle.method.specs.words.Types.{State, blank}
+use Rattle.method.specs.computed.Search.{earliest, in-time}
+use Rattle.method.specs.computed.Rooms.{Room}
+use Rattle.method.specs.computed.Sound.{Exact}
 use Rattle.method.specs.declared.Found.{Found}
 use Rattle.method.specs.declared.Found.the-variants.{Nothing}
 use Rattle.beside.specs.Beside.{Beside}

@@ -4,8 +4,8 @@
 ghost use mathlib.Core.Path.{_≡_};
 ghost use Rattle.numbers.specs.Decides.{Decides};
 ghost use Rattle.method.specs.declared.Found.the-variants.{Nothing};
-ghost use Rattle.method.specs.Opening.{ids};
-ghost use Rattle.method.specs.Sound.{Distinct};
+ghost use Rattle.method.specs.computed.Opening.{ids};
+ghost use Rattle.method.specs.computed.Sound.{Distinct};
 ghost use Rattle.corridor.specs.View.{view, Valid};
 ghost use Rattle.memory.specs.Memory.{session-in};
 ghost use Rattle.intact.specs.Tests.{BesideIn, LinesIn, due-by};

@@ -14,14 +14,14 @@ use Rattle.numbers.specs.Rounding.{floor, ceiling}
 use Rattle.numbers.proofs.Halves.{zarith, apart, abs-is, sub-is}
 use Rattle.numbers.proofs.Ranges.{fits, floor-within, within-add, within-sub, within-lit, within-mul, within-pos, within-more}
 use Rattle.numbers.proofs.Machine.{cast-back}
-use Rattle.method.specs.Bounds.{bound}
-use Rattle.method.specs.Opening.{normal-price, corridor-half, corridor}
-use Rattle.method.specs.Ranges.{ContractIn}
+use Rattle.method.specs.words.Types.{steps}
+use Rattle.method.specs.words.Ranges.{ContractIn}
+use Rattle.method.specs.words.Bounds.{bound}
+use Rattle.method.specs.words.Opening.{normal-price, corridor-half, corridor}
 use Rattle.method.proofs.Opening.{normal-in}
 use Rattle.method.proofs.Rooms.{span-within}
 use Rattle.bounds.proofs.Drawing.{drawn-within}
 use Rattle.line.specs.Names.{Up, Down, Millionths, Contract, Terms, Market, Limits}
-use Rattle.method.specs.Types.{steps}
 use Rattle.line.specs.Asks.{Spanned}
 
 -- ---- a size

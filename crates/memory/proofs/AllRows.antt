@@ -6,7 +6,7 @@ use native.Mathlib.Numerals.{add-one}
 use native.Mathlib.Omega.{arith}
 use lib.ListN.{length, getD, set, take}
 use lib.Seq.{take-suc, take-suc-set, take-set-le, take-all, getD-set-same}
-use Rattle.method.specs.Types.{seconds, millionths}
+use Rattle.method.specs.words.Types.{seconds, millionths}
 use Rattle.packed.specs.Packed.{at, word-in, line-in}
 use Rattle.memory.specs.Names.{Line, Session}
 use Rattle.memory.specs.Memory.{no-row, head-of, session-in}

@@ -5,7 +5,7 @@ use Prim.Native.Nat.{ℕ, zero, suc, _<_}
 use native.Mathlib.Omega.{arith}
 use lib.ListN.{length, getD, set, take, List·getD-map}
 use lib.Seq.{getD-take, take-set-le, take-set-lt, getD-set-same, getD-set-other}
-use Rattle.method.specs.Types.{blank, seconds, millionths}
+use Rattle.method.specs.words.Types.{blank, seconds, millionths}
 use Rattle.packed.specs.Packed.{at, word-in, hold-in, line-in}
 use Rattle.memory.specs.Names.{Seconds, Line, Session}
 use Rattle.memory.specs.Memory.{no-row, head-of, session-in, with-line, with-clock}

@@ -3,7 +3,7 @@
 use mathlib.Core.List.{List, [], map}
 use Prim.Native.Nat.{ℕ}
 use lib.ListN.{getD, set, take}
-use Rattle.method.specs.Types.{millionths, seconds}
+use Rattle.method.specs.words.Types.{millionths, seconds}
 use Rattle.packed.specs.Packed.{at, word-in, line-in}
 use Rattle.memory.specs.Names.{Seconds, Line, Session}
 

@@ -5,19 +5,22 @@ use mathlib.Core.List.{List}
 use Prim.Native.Nat.{ℕ, _-_, _≤_}
 use native.Mathlib.Omega.{arith}
 use Rattle.numbers.proofs.Tests.{false-le, never-both}
-use Rattle.method.specs.Types.{Given, Line, Quote, Event, Damaged, Tick, Quoted, ShiftLine, State, EventAnswer, steps}
-use Rattle.method.specs.Wire.{word, signed}
-use Rattle.method.specs.Opening.{known}
-use Rattle.method.specs.Table.{opened, opening}
-use Rattle.method.specs.Pressure.{judge}
-use Rattle.method.specs.Shift.{moved-line, shift-line, shifted}
-use Rattle.method.specs.Event.{not-crossed, verdict, read, quoted-line, applied, Answer}
-use Rattle.method.specs.CalledFor.{Answers, reached}
-use Rattle.method.specs.Ranges.{Every, LineIn}
-use Rattle.method.specs.Later.{Later, start, shift, event}
-use Rattle.method.specs.Rule1Words.{InSession, IsCrossed, Unknown}
-use Rattle.method.specs.Rule2Words.{BookSaid}
-use Rattle.method.specs.Ticks.{Repeats}
+use Rattle.method.specs.words.Types.{Given, Line, Quote, Event, Damaged, Tick, Quoted, ShiftLine, State, EventAnswer, steps}
+use Rattle.method.specs.words.Wire.{word, signed}
+use Rattle.method.specs.words.Ranges.{Every}
+use Rattle.method.specs.words.Tables.{opened}
+use Rattle.method.specs.words.Events.{InSession, IsCrossed, Unknown}
+use Rattle.method.specs.words.Books.{BookSaid}
+use Rattle.method.specs.words.Sessions.{Answer}
+use Rattle.method.specs.laws.Ticks.{Repeats}
+use Rattle.method.specs.told.Questions.{known}
+use Rattle.method.specs.computed.Table.{opening}
+use Rattle.method.specs.computed.Judge.{judge}
+use Rattle.method.specs.computed.Shift.{moved-line, shift-line, shifted}
+use Rattle.method.specs.computed.Event.{not-crossed, verdict, read, quoted-line, applied}
+use Rattle.method.specs.computed.Relation.{Answers, reached}
+use Rattle.method.specs.computed.Later.{Later, start, shift, event}
+use Rattle.method.specs.computed.Rooms.{LineIn}
 use Rattle.method.proofs.Demands.{met-by}
 use Rattle.method.proofs.Every.{every-map, every-weaker, every-with, every-quoted}
 use Rattle.method.proofs.Table.{accepted-table}

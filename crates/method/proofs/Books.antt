@@ -7,18 +7,22 @@ use native.Mathlib.Omega.{arith}
 use lib.Dec.{eqb}
 use lib.IntN.{ℤ}
 use borrow.Author.Tests.{eqb-true, eqb-false}
-use Rattle.method.specs.Types.{Millionths, Key, Contract, Line, ShiftLine, State, EventAnswer, seconds}
-use Rattle.method.specs.Wire.{word, signed, bit}
-use Rattle.method.specs.Opening.{ids, terms-of, fresh-line}
-use Rattle.method.specs.Sound.{Distinct}
-use Rattle.method.specs.Table.{opened, opening-state, opening}
-use Rattle.method.specs.Pressure.{judge}
-use Rattle.method.specs.Shift.{moved-line, shift-line, shifted, onward, after}
-use Rattle.method.specs.Event.{price-of, read, verdict, quoted-line, quoted, applied, accepted, next}
-use Rattle.method.specs.CalledFor.{time}
-use Rattle.method.specs.Ranges.{Every}
-use Rattle.method.specs.Rule1Words.{its-line, GoodAll, TableAnswered, all-good, IsQuote, EventAnswered, tick-taken, quote-taken}
-use Rattle.method.specs.Rule2Words.{Each, PriceSaid, Quotes, BookLife}
+use Rattle.method.specs.words.Types.{Millionths, Key, Contract, Line, ShiftLine, State, EventAnswer, seconds}
+use Rattle.method.specs.words.Wire.{word, signed, bit}
+use Rattle.method.specs.words.Ranges.{Every}
+use Rattle.method.specs.words.Opening.{terms-of, fresh-line}
+use Rattle.method.specs.words.Tables.{opened, opening-state, its-line, GoodAll, TableAnswered, all-good}
+use Rattle.method.specs.words.Events.{IsQuote, EventAnswered, tick-taken, quote-taken}
+use Rattle.method.specs.words.Books.{PriceSaid, Quotes, BookLife}
+use Rattle.method.specs.words.Shifts.{Each}
+use Rattle.method.specs.words.Sessions.{accepted}
+use Rattle.method.specs.computed.Opening.{ids}
+use Rattle.method.specs.computed.Table.{opening}
+use Rattle.method.specs.computed.Judge.{judge}
+use Rattle.method.specs.computed.Shift.{moved-line, shift-line, shifted, onward, after}
+use Rattle.method.specs.computed.Event.{price-of, read, verdict, quoted-line, quoted, applied, next}
+use Rattle.method.specs.computed.Relation.{time}
+use Rattle.method.specs.computed.Sound.{Distinct}
 use Rattle.method.proofs.Every.{every-all, every-middle}
 use Rattle.method.proofs.Each.{each-same, each-map, each-weaker}
 use Rattle.method.proofs.TableAnswered.{table-answered}

@@ -6,9 +6,9 @@ use lib.Signed.{_≤ℤ_}
 use Rattle.numbers.proofs.Halves.{zarith, add-is, sub-is}
 use Rattle.numbers.proofs.Linear.{mul-mono}
 use Rattle.numbers.proofs.Rounding.{floor-mono, ceiling-mono}
-use Rattle.method.specs.Types.{Side, Up, Down, other, Steps, Terms, Market}
-use Rattle.method.specs.Bounds.{factor, interest, bound}
-use Rattle.method.specs.Shift.{moved}
+use Rattle.method.specs.words.Types.{Side, Up, Down, other, Steps, Terms, Market}
+use Rattle.method.specs.words.Bounds.{factor, interest, bound}
+use Rattle.method.specs.computed.Shift.{moved}
 
 -- ---- interest bounds do not fall where the market bound does not
 pub interest-mono : (side : Side) (f : ℕ) {y z : ℤ} → y ≤ℤ z → interest side f y ≤ℤ interest side f z

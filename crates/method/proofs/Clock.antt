@@ -4,10 +4,11 @@ use mathlib.Core.Path.{_≡_, refl}
 use mathlib.Core.List.{List, [], _∷_}
 use Prim.Native.Nat.{_≤_}
 use borrow.Author.Tests.{le-leb}
-use Rattle.method.specs.Types.{Seconds, Event, Damaged, Tick, Quoted, ShiftLine, Due, State, EventAnswer}
-use Rattle.method.specs.Shift.{with-lines, shifted, onward, after}
-use Rattle.method.specs.Event.{in-session, verdict, applied}
-use Rattle.method.specs.CalledFor.{Stands, First, Done, Calls, time}
+use Rattle.method.specs.words.Types.{Seconds, Event, Damaged, Tick, Quoted, ShiftLine, Due, State, EventAnswer}
+use Rattle.method.specs.words.Holds.{Stands, First, Done}
+use Rattle.method.specs.computed.Shift.{with-lines, shifted, onward, after}
+use Rattle.method.specs.computed.Event.{in-session, verdict, applied}
+use Rattle.method.specs.computed.Relation.{Calls, time}
 use Rattle.method.proofs.Events.{not-accepted, in-session-met}
 
 -- the state with its clock set to u; back at its own clock it is the state itself

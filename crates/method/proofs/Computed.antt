@@ -1,23 +1,11 @@
 -- What is computed is what the words admit: a theorem for each statement of specs/Computed, in its order. Assumes nothing.
 use mathlib.Core.Path.{refl, subst}
-use Rattle.method.specs.CalledFor.{Answers}
-use Rattle.method.specs.Search.{run}
-use Rattle.method.specs.Program.{rows-after, program}
-use Rattle.method.specs.Rule1Words.{TableAnswered, EventAnswered}
-use Rattle.method.specs.Computed.{
-  OpeningIs,
-  VerdictIs,
-  RefusedPrintsOneRow,
-  SessionIs,
-  OpensProper,
-  StaysProper,
-  OneShift,
-  OneEvent,
-  OneNextState,
-  SameAnswers,
-  RightAnswers,
-  SessionReached,
-}
+use Rattle.method.specs.words.Tables.{TableAnswered}
+use Rattle.method.specs.words.Events.{EventAnswered}
+use Rattle.method.specs.computed.Equal.{OpeningIs, VerdictIs, RefusedPrintsOneRow, SessionIs, OpensProper, StaysProper, OneShift, OneEvent, OneNextState, SameAnswers, RightAnswers, SessionReached}
+use Rattle.method.specs.computed.Relation.{Answers}
+use Rattle.method.specs.computed.Search.{run}
+use Rattle.method.specs.computed.Program.{rows-after, program}
 use Rattle.method.proofs.TableAnswered.{table-answered, answered-table}
 use Rattle.method.proofs.EventAnswered.{event-answered, answered-verdict}
 use Rattle.method.proofs.Answers.{run-right, answers-unique, finally-reached}

@@ -12,10 +12,12 @@ use Rattle.numbers.proofs.Halves.{zarith, add-is, sub-is, mul-is}
 use Rattle.numbers.proofs.Linear.{≤ℤ-trans, le-or-lt, mul-mono, mul-grows, mul-sinks}
 use Rattle.numbers.proofs.Rounding.{floor-mono, ceiling-mono, floor-exact, ceiling-exact}
 use Rattle.numbers.proofs.Tests.{both, lt-true, lt-false, le-true}
-use Rattle.method.specs.Types.{Up, Down, Millionths, Terms, Market, Limits, steps}
-use Rattle.method.specs.Bounds.{factor, interest, bound}
-use Rattle.method.specs.Opening.{permits-negative, corridor-half, corridor, inside-bounds, floored}
-use Rattle.method.specs.Ranges.{FactorsIn, LimitsIn}
+use Rattle.method.specs.words.Types.{Up, Down, Millionths, Terms, Market, Limits, steps}
+use Rattle.method.specs.words.Ranges.{permits-negative}
+use Rattle.method.specs.words.Bounds.{factor, interest, bound}
+use Rattle.method.specs.words.Opening.{corridor-half, corridor, floored}
+use Rattle.method.specs.computed.Opening.{inside-bounds}
+use Rattle.method.specs.computed.Rooms.{FactorsIn, LimitsIn}
 use Rattle.method.proofs.Floor.{Floored, free, met, floor-of, floored-upper, floored-floor}
 
 -- ---- a price p and a market bound z beyond it, by the factor that takes z outward: at a price that is not negative the upper one by 1 or

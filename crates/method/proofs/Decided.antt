@@ -7,11 +7,12 @@ use Prim.Native.Nat.{ℕ}
 use lib.Dec.{eqb}
 use borrow.Author.Tests.{eqb-true, eqb-false, le-leb, lt-ltb, eq-eqb, ne-eqb}
 use Rattle.numbers.proofs.Tests.{both, both-true, never-both, le-true, true-le, range-in, span-in, within-in}
-use Rattle.method.specs.Types.{Header, Key, Contract, Terms, Market, Limits, Line}
-use Rattle.method.specs.Opening.{permits-negative, rates-good, fields-good, known, inside-bounds}
-use Rattle.method.specs.Table.{header-good, laid-out, key-good}
-use Rattle.method.specs.Ranges.{HeaderIn, KeyIn, ContractIn, Every}
-use Rattle.method.specs.Rule1Words.{Laid, InsideBounds}
+use Rattle.method.specs.words.Types.{Header, Key, Contract, Terms, Market, Limits, Line}
+use Rattle.method.specs.words.Ranges.{permits-negative, HeaderIn, KeyIn, ContractIn, Every}
+use Rattle.method.specs.words.Tables.{Laid, InsideBounds}
+use Rattle.method.specs.told.Questions.{known}
+use Rattle.method.specs.computed.Opening.{rates-good, fields-good, inside-bounds}
+use Rattle.method.specs.computed.Table.{header-good, laid-out, key-good}
 
 -- ---- a test that fails denies what it decides; one that decides it holds where that holds
 pub denied : {P : Type 0} (t : Bool) → (P → t ≡ true) → t ≡ false → P → ⊥

@@ -11,14 +11,15 @@ use borrow.Author.Tests.{leb-true}
 use Rattle.numbers.specs.Ranges.{Between}
 use Rattle.numbers.specs.Tests.{same}
 use Rattle.numbers.proofs.Tests.{both, in-span-true}
-use Rattle.method.specs.Types.{Side, Seconds, Millionths, Line, Event, Damaged, Tick, Quoted, ShiftLine, State, EventReason, EventAnswer, seconds}
-use Rattle.method.specs.Wire.{word, signed, bit}
-use Rattle.method.specs.Opening.{known, ids}
-use Rattle.method.specs.Pressure.{judge}
-use Rattle.method.specs.Shift.{moved-line, shift-line, shifted, onward, after}
-use Rattle.method.specs.Event.{price-good, price-of, read-tick, read-quote, read, in-session, verdict}
-use Rattle.method.specs.CalledFor.{time}
-use Rattle.method.specs.Ranges.{PriceIn, EventIn}
+use Rattle.method.specs.words.Types.{Side, Seconds, Millionths, Line, Event, Damaged, Tick, Quoted, ShiftLine, State, EventReason, EventAnswer, seconds}
+use Rattle.method.specs.words.Wire.{word, signed, bit}
+use Rattle.method.specs.told.Questions.{known}
+use Rattle.method.specs.computed.Opening.{ids}
+use Rattle.method.specs.computed.Judge.{judge}
+use Rattle.method.specs.computed.Shift.{moved-line, shift-line, shifted, onward, after}
+use Rattle.method.specs.computed.Event.{price-good, price-of, read-tick, read-quote, read, in-session, verdict}
+use Rattle.method.specs.computed.Relation.{time}
+use Rattle.method.specs.computed.Rooms.{PriceIn, EventIn}
 use Rattle.method.proofs.Demands.{met-by, by-demand, by-cond}
 
 -- ---- the prices that are read lie within 2,000,000,000

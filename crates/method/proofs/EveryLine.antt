@@ -1,11 +1,12 @@
 -- What a shift and a quote keep of one line, every run keeps of all lines. Assumes nothing.
 use mathlib.Core.List.{List, [], _∷_}
 use Prim.Native.Nat.{ℕ, _-_}
-use Rattle.method.specs.Types.{Side, Seconds, Millionths, Line, Quote, Event, Damaged, Tick, Quoted, ShiftLine, State}
-use Rattle.method.specs.Shift.{shift-line, shifted, onward, after}
-use Rattle.method.specs.Event.{read, quoted-line, applied, Answer, accepted, refused, next}
-use Rattle.method.specs.CalledFor.{reached}
-use Rattle.method.specs.Ranges.{Every}
+use Rattle.method.specs.words.Types.{Side, Seconds, Millionths, Line, Quote, Event, Damaged, Tick, Quoted, ShiftLine, State}
+use Rattle.method.specs.words.Ranges.{Every}
+use Rattle.method.specs.words.Sessions.{Answer, accepted, refused}
+use Rattle.method.specs.computed.Shift.{shift-line, shifted, onward, after}
+use Rattle.method.specs.computed.Event.{read, quoted-line, applied, next}
+use Rattle.method.specs.computed.Relation.{reached}
 use Rattle.method.proofs.Every.{every-map, every-quoted}
 
 module _

@@ -5,9 +5,10 @@ use Prim.Native.Nat.{ℕ}
 use lib.IntN.{pos}
 use lib.Signed.{ltZ, leZ-yes, _≤ℤ_, _<ℤ_}
 use Rattle.numbers.proofs.Tests.{lt-true, lt-false}
-use Rattle.method.specs.Types.{Limits, steps}
-use Rattle.method.specs.Opening.{permits-negative, floored}
-use Rattle.method.specs.Ranges.{Floor}
+use Rattle.method.specs.words.Types.{Limits, steps}
+use Rattle.method.specs.words.Ranges.{permits-negative}
+use Rattle.method.specs.words.Opening.{floored}
+use Rattle.method.specs.computed.Rooms.{Floor}
 
 abbrev pub at-floor : Limits → Limits
 at-floor k = record { upper = k .upper; lower = steps (pos 1); frozen = true }

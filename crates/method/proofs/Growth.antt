@@ -14,9 +14,9 @@ use Rattle.numbers.specs.Rounding.{floor}
 use Rattle.numbers.proofs.Halves.{zarith, add-is, sub-is, mul-is, apart, abs-is}
 use Rattle.numbers.proofs.Linear.{le-or-lt, mul-mono, mul-grows, mul-sinks}
 use Rattle.numbers.proofs.Rounding.{div-mono, floor-mono, floor-exact}
-use Rattle.method.specs.Types.{Key}
-use Rattle.method.specs.Ranges.{KeysIn}
-use Rattle.method.specs.Growth.{between-keys, rate-from, rate-by-keys, rate-at, most-exponent, term, series, up-factor, down-factor, factors-of}
+use Rattle.method.specs.words.Types.{Key}
+use Rattle.method.specs.words.Ranges.{KeysIn}
+use Rattle.method.specs.words.Growth.{between-keys, rate-from, rate-by-keys, rate-at, most-exponent, term, series, up-factor, down-factor, factors-of}
 use Rattle.method.proofs.Demands.{by-cond}
 
 -- ---- the factor rises with the exponent, so that its values at 0 and at the cap bound it

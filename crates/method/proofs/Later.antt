@@ -9,15 +9,18 @@ use lib.Dec.{ltb}
 use lib.ListN.{length, getD}
 use borrow.Author.Tests.{ltb-true}
 use Rattle.numbers.proofs.Tests.{both}
-use Rattle.method.specs.Types.{Up, Down, Seconds, Millionths, ShiftLine, State, blank}
-use Rattle.method.specs.Wire.{bit}
-use Rattle.method.specs.Pressure.{hold-of, presses}
-use Rattle.method.specs.Shift.{shifted, onward, after}
-use Rattle.method.specs.Event.{Answer, accepted, refused, read, next}
-use Rattle.method.specs.CalledFor.{First, Calls, time, Right, Answers, reached, lines-of, joined}
-use Rattle.method.specs.Ranges.{Every, OpeningIn, LineIn, Sane}
-use Rattle.method.specs.Sound.{standing, Exact}
-use Rattle.method.specs.Later.{Later, start, shift, event}
+use Rattle.method.specs.words.Types.{Up, Down, Seconds, Millionths, ShiftLine, State, blank}
+use Rattle.method.specs.words.Wire.{bit}
+use Rattle.method.specs.words.Ranges.{Every}
+use Rattle.method.specs.words.Pressure.{hold-of, presses}
+use Rattle.method.specs.words.Holds.{First}
+use Rattle.method.specs.words.Sessions.{Answer, accepted, refused, lines-of, joined}
+use Rattle.method.specs.computed.Shift.{shifted, onward, after}
+use Rattle.method.specs.computed.Event.{read, next}
+use Rattle.method.specs.computed.Relation.{Calls, time, Right, Answers, reached}
+use Rattle.method.specs.computed.Later.{Later, start, shift, event}
+use Rattle.method.specs.computed.Rooms.{OpeningIn, LineIn, Sane}
+use Rattle.method.specs.computed.Sound.{standing, Exact}
 use Rattle.method.proofs.Every.{every-weaker, every-else}
 use Rattle.method.proofs.Exact.{exact-shifted, exact-applied, exact-opened}
 use Rattle.method.proofs.Events.{read-in, verdict-after}

@@ -4,11 +4,12 @@ use mathlib.Core.Path.{_≡_, sym, _∙_}
 use mathlib.Core.List.{List, _++_}
 use Prim.Native.Nat.{_≤_}
 use native.Mathlib.Omega.{arith}
-use Rattle.method.specs.Types.{Event, ShiftLine, State, EventAnswer}
-use Rattle.method.specs.Shift.{after}
-use Rattle.method.specs.Event.{verdict, accepted, next}
-use Rattle.method.specs.CalledFor.{Calls, time, Right}
-use Rattle.method.specs.Sound.{Sound}
+use Rattle.method.specs.words.Types.{Event, ShiftLine, State, EventAnswer}
+use Rattle.method.specs.words.Sessions.{accepted}
+use Rattle.method.specs.computed.Shift.{after}
+use Rattle.method.specs.computed.Event.{verdict, next}
+use Rattle.method.specs.computed.Relation.{Calls, time, Right}
+use Rattle.method.specs.computed.Sound.{Sound}
 use Rattle.method.proofs.Events.{on-time, verdict-after}
 use Rattle.method.proofs.Serving.{calls-append, after-append, after-judged}
 use Rattle.method.proofs.Clock.{at-clock, calls-clock, after-clock, applied-anew, verdict-clock}

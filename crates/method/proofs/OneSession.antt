@@ -4,30 +4,21 @@ use mathlib.Core.Path.{_≡_, refl, sym, ap, _∙_, subst}
 use mathlib.Core.List.{List, [], _∷_, _++_}
 use Prim.Native.Nat.{ℕ, _+_, _≤_, _<_}
 use native.Mathlib.Omega.{arith}
-use Rattle.method.specs.Types.{Seconds, ShiftLine, State, EventReason, EventAnswer, seconds}
-use Rattle.method.specs.Wire.{word}
-use Rattle.method.specs.Opening.{ids}
-use Rattle.method.specs.Shift.{onward, after}
-use Rattle.method.specs.Event.{read, verdict, applied, Answer, accepted, refused, next}
-use Rattle.method.specs.CalledFor.{Done, Calls, Right, Answers, reached, joined}
-use Rattle.method.specs.Search.{run, finally}
-use Rattle.method.specs.Ranges.{Every}
-use Rattle.method.specs.Sound.{Sound, Distinct, Proper}
-use Rattle.method.specs.Later.{start}
-use Rattle.method.specs.Rule1Words.{IsEvent, EventAnswered, tick-taken, quote-taken}
-use Rattle.method.specs.InWords.{
-  LineTold,
-  AppliedTo,
-  Serves,
-  nothing,
-  first,
-  Follows,
-  AnswersInWords,
-  no-more,
-  taken,
-  turned-away,
-}
-use Rattle.method.specs.Sessions.{Opens, Struck, Reported}
+use Rattle.method.specs.words.Types.{Seconds, ShiftLine, State, EventReason, EventAnswer, seconds}
+use Rattle.method.specs.words.Wire.{word}
+use Rattle.method.specs.words.Ranges.{Every}
+use Rattle.method.specs.words.Events.{IsEvent, EventAnswered, tick-taken, quote-taken}
+use Rattle.method.specs.words.Holds.{Done}
+use Rattle.method.specs.words.Sessions.{Answer, accepted, refused, joined, LineTold, AppliedTo, Serves, nothing, first, Follows, AnswersInWords, no-more, taken, turned-away, Struck}
+use Rattle.method.specs.words.Rules.{Opens}
+use Rattle.method.specs.laws.Stages.{Reported}
+use Rattle.method.specs.computed.Opening.{ids}
+use Rattle.method.specs.computed.Shift.{onward, after}
+use Rattle.method.specs.computed.Event.{read, verdict, applied, next}
+use Rattle.method.specs.computed.Relation.{Calls, Right, Answers, reached}
+use Rattle.method.specs.computed.Search.{run, finally}
+use Rattle.method.specs.computed.Later.{start}
+use Rattle.method.specs.computed.Sound.{Sound, Distinct, Proper}
 use Rattle.method.proofs.Every.{every-weaker, every-append}
 use Rattle.method.proofs.Events.{not-accepted}
 use Rattle.method.proofs.Table.{accepted-table}

@@ -14,10 +14,12 @@ use Rattle.numbers.proofs.Halves.{zarith, apart, abs-is}
 use Rattle.numbers.proofs.Linear.{≤ℤ-trans}
 use Rattle.numbers.proofs.Rounding.{floor-mono, ceiling-mono}
 use Rattle.numbers.proofs.Tests.{both, lt-false, le-true, in-range-true, between-true, in-span-true}
-use Rattle.method.specs.Types.{Steps, Millionths, Key, Contract, Line, LineAnswer, TableReason}
-use Rattle.method.specs.Growth.{rate-at, exponent, most-exponent}
-use Rattle.method.specs.Opening.{rates-good, fields-good, id-good, normal-price, half-width, market-of, half-move, terms-of, corridor, inside-bounds, fresh-line, opened-with, open-line}
-use Rattle.method.specs.Ranges.{ContractIn, MarketIn, LineIn}
+use Rattle.method.specs.words.Types.{Steps, Millionths, Key, Contract, Line, LineAnswer, TableReason}
+use Rattle.method.specs.words.Ranges.{ContractIn}
+use Rattle.method.specs.words.Growth.{rate-at, exponent, most-exponent}
+use Rattle.method.specs.words.Opening.{normal-price, half-width, market-of, half-move, terms-of, corridor, fresh-line}
+use Rattle.method.specs.computed.Opening.{rates-good, fields-good, id-good, inside-bounds, opened-with, open-line}
+use Rattle.method.specs.computed.Rooms.{MarketIn, LineIn}
 use Rattle.method.proofs.Demands.{met-by}
 use Rattle.method.proofs.Growth.{factors-in}
 use Rattle.method.proofs.Corridor.{corridor-in}

@@ -7,10 +7,10 @@ use lib.IntN.{ℤ, pos, negsuc, _-ℤ_, _*ℤ_}
 use lib.Signed.{_≤ℤ_, _<ℤ_}
 use Rattle.numbers.proofs.Halves.{zarith, sub-is, mul-is, lmul-is}
 use Rattle.numbers.proofs.Tests.{both, lt-true, le-true}
-use Rattle.method.specs.Types.{Up, Down, Millionths, Limits, Price, Absent, Given, Line}
-use Rattle.method.specs.Opening.{under-watch}
-use Rattle.method.specs.Pressure.{close, presses}
-use Rattle.method.specs.Event.{not-crossed}
+use Rattle.method.specs.words.Types.{Up, Down, Millionths, Limits, Price, Absent, Given, Line}
+use Rattle.method.specs.words.Ranges.{under-watch}
+use Rattle.method.specs.words.Pressure.{close, presses}
+use Rattle.method.specs.computed.Event.{not-crossed}
 
 half-of : (z : ℤ) (n : ℕ) → n ≤ 500_000 → pos 0 ≤ℤ z → (pos n *ℤ z) ≤ℤ (pos 500_000 *ℤ z)
 half-of (pos k) n h p = omega (zarith, mul-le-mul-right k h)

@@ -6,9 +6,9 @@ use mir.Syntax.{w64}
 use mir.Val.{SFits}
 use Rattle.numbers.specs.Ranges.{Within}
 use Rattle.numbers.proofs.Ranges.{within-lit, within-pos, within-sub, within-mul, fits}
-use Rattle.method.specs.Types.{Side, Steps, Millionths, Line}
-use Rattle.method.specs.Bounds.{market-bound, factor}
-use Rattle.method.specs.Ranges.{Room}
+use Rattle.method.specs.words.Types.{Side, Steps, Millionths, Line}
+use Rattle.method.specs.words.Bounds.{market-bound, factor}
+use Rattle.method.specs.computed.Rooms.{Room}
 use Rattle.method.proofs.Rooms.{factor-in, market-bound-in, upper-in, lower-in}
 
 module _ {left : ℕ} {l : Line} (r : Room left l) where

@@ -8,11 +8,11 @@ use lib.Signed.{leZ-yes, _≤ℤ_, ≤ℤ-refl}
 use Rattle.numbers.specs.Ranges.{Span}
 use Rattle.numbers.proofs.Halves.{zarith, add-is, sub-is}
 use Rattle.numbers.proofs.Linear.{≤ℤ-trans}
-use Rattle.method.specs.Types.{Side, Up, Down, Terms, Market, Limits, steps}
-use Rattle.method.specs.Bounds.{bound}
-use Rattle.method.specs.Opening.{permits-negative}
-use Rattle.method.specs.Shift.{moved, redrawn}
-use Rattle.method.specs.Ranges.{Floor, LimitsRoom}
+use Rattle.method.specs.words.Types.{Side, Up, Down, Terms, Market, Limits, steps}
+use Rattle.method.specs.words.Ranges.{permits-negative}
+use Rattle.method.specs.words.Bounds.{bound}
+use Rattle.method.specs.computed.Shift.{moved, redrawn}
+use Rattle.method.specs.computed.Rooms.{Floor, LimitsRoom}
 use Rattle.method.proofs.Bounds.{bound-kept, upper-rises, lower-falls}
 use Rattle.method.proofs.Floor.{Floored, free, met, floor-of, floored-upper}
 

@@ -6,15 +6,15 @@ use Prim.Native.Nat.{ℕ, _-_}
 use lib.Dec.{eqb}
 use lib.IntN.{ℤ}
 use borrow.Author.Tests.{eqb-true}
-use Rattle.method.specs.Types.{Millionths, Price, Book, Line, Quote, Event, Damaged, Tick, Quoted, ShiftLine, State, EventAnswer}
-use Rattle.method.specs.Pressure.{judge}
-use Rattle.method.specs.Shift.{moved-line, shift-line, shifted, onward, after}
-use Rattle.method.specs.Event.{price-of, read, verdict, with-book, quoted-line, quoted, applied}
-use Rattle.method.specs.CalledFor.{time}
-use Rattle.method.specs.Ranges.{Every}
-use Rattle.method.specs.Sound.{Exact}
-use Rattle.method.specs.Rule2Words.{PriceSaid, BookSaid}
-use Rattle.method.specs.Ticks.{NothingNew, tick, repeat}
+use Rattle.method.specs.words.Types.{Millionths, Price, Book, Line, Quote, Event, Damaged, Tick, Quoted, ShiftLine, State, EventAnswer}
+use Rattle.method.specs.words.Ranges.{Every}
+use Rattle.method.specs.words.Books.{PriceSaid, BookSaid}
+use Rattle.method.specs.laws.Ticks.{NothingNew, tick, repeat}
+use Rattle.method.specs.computed.Judge.{judge}
+use Rattle.method.specs.computed.Shift.{moved-line, shift-line, shifted, onward, after}
+use Rattle.method.specs.computed.Event.{price-of, read, verdict, with-book, quoted-line, quoted, applied}
+use Rattle.method.specs.computed.Relation.{time}
+use Rattle.method.specs.computed.Sound.{Exact}
 use Rattle.method.proofs.Every.{every-map, every-weaker}
 use Rattle.method.proofs.Exact.{judge-same}
 use Rattle.method.proofs.Events.{not-accepted}

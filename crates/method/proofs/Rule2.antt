@@ -4,37 +4,23 @@ use mathlib.Core.List.{List, _∷_, _++_}
 use mathlib.Core.Logic.{_⊎_}
 use Prim.Native.Nat.{ℕ, _≤_}
 use native.Mathlib.Omega.{arith}
-use Rattle.method.specs.Types.{Since, ShiftLine, State, seconds}
-use Rattle.method.specs.Wire.{word}
-use Rattle.method.specs.Table.{opening-state}
-use Rattle.method.specs.Shift.{after}
-use Rattle.method.specs.Event.{read, Answer, accepted, next}
-use Rattle.method.specs.CalledFor.{Stands, First, Done, Calls, time, Right}
-use Rattle.method.specs.Search.{run, finally}
-use Rattle.method.specs.Ranges.{Every, LineIn, Room}
-use Rattle.method.specs.Sound.{Sound, Proper}
-use Rattle.method.specs.Rule2Words.{hold-at, Caller, Timely}
-use Rattle.method.specs.InWords.{SameTable, Follows, AnswersInWords}
-use Rattle.method.specs.Sessions.{Opens, AtOnce, Stage, Begun, Throughout}
-use Rattle.method.specs.Later.{start}
-use Rattle.method.specs.Rules.{
-  EverySession,
-  EventAtOnce,
-  NothingLeft,
-  NoneMissed,
-  HoldsStandExactly,
-  HoldsStandBetween,
-  InOrder,
-  EachLineCalledFor,
-  EachLineReported,
-  ShiftsCounted,
-  AtMostSixteen,
-  Rule2,
-  AtMostOne,
-  WheneverLooked,
-  AtOpening,
-  TableKept,
-}
+use Rattle.method.specs.words.Types.{Since, ShiftLine, State, seconds}
+use Rattle.method.specs.words.Wire.{word}
+use Rattle.method.specs.words.Ranges.{Every}
+use Rattle.method.specs.words.Tables.{opening-state}
+use Rattle.method.specs.words.Holds.{Stands, First, Done}
+use Rattle.method.specs.words.Sessions.{Answer, accepted, SameTable, Follows, AnswersInWords}
+use Rattle.method.specs.words.Rules.{Opens, EverySession}
+use Rattle.method.specs.laws.Seen.{hold-at, Caller, Timely, AtOnce}
+use Rattle.method.specs.laws.Stages.{Stage, Begun, Throughout}
+use Rattle.method.specs.laws.Laws.{EventAtOnce, NothingLeft, NoneMissed, HoldsStandExactly, HoldsStandBetween, InOrder, EachLineCalledFor, EachLineReported, ShiftsCounted, AtMostSixteen, Rule2, AtMostOne, WheneverLooked, AtOpening, TableKept}
+use Rattle.method.specs.computed.Shift.{after}
+use Rattle.method.specs.computed.Event.{read, next}
+use Rattle.method.specs.computed.Relation.{Calls, time, Right}
+use Rattle.method.specs.computed.Search.{run, finally}
+use Rattle.method.specs.computed.Later.{start}
+use Rattle.method.specs.computed.Rooms.{LineIn, Room}
+use Rattle.method.specs.computed.Sound.{Sound, Proper}
 use Rattle.method.proofs.Every.{every-weaker, every-middle}
 use Rattle.method.proofs.Table.{accepted-table}
 use Rattle.method.proofs.TableAnswered.{answered-table}

@@ -8,43 +8,19 @@ use native.Mathlib.Omega.{arith}
 use lib.IntN.{ℤ, pos, _+ℤ_, _-ℤ_}
 use lib.Signed.{_≤ℤ_, _<ℤ_}
 use Rattle.numbers.proofs.Halves.{zarith, add-is, sub-is}
-use Rattle.method.specs.Types.{Side, Up, Down, Line, ShiftLine, State, steps}
-use Rattle.method.specs.Bounds.{bound}
-use Rattle.method.specs.Opening.{permits-negative, ids}
-use Rattle.method.specs.Event.{Answer}
-use Rattle.method.specs.CalledFor.{joined}
-use Rattle.method.specs.Ranges.{OpeningIn, Room}
-use Rattle.method.specs.Sound.{Distinct}
-use Rattle.method.specs.Later.{Later}
-use Rattle.method.specs.Rule2Words.{Each}
-use Rattle.method.specs.InWords.{AnswersInWords}
-use Rattle.method.specs.Sessions.{Opens, Moment, start}
-use Rattle.method.specs.Rule3Words.{
-  margin,
-  FloorMet,
-  at-opening,
-  in-a-shift,
-  Lower,
-  exactly,
-  at-floor,
-  Shifted,
-  Outward,
-  StaysFrozen,
-}
-use Rattle.method.specs.Rules.{
-  Centres,
-  HalfWidthsGrow,
-  ShiftsWithin,
-  NeverInward,
-  UpperInside,
-  LowerInside,
-  FrozenTells,
-  FrozenForGood,
-  LinesShifted,
-  OneLine,
-  AnswersLead,
-  ShiftsLead,
-}
+use Rattle.method.specs.words.Types.{Side, Up, Down, Line, ShiftLine, State, steps}
+use Rattle.method.specs.words.Ranges.{permits-negative}
+use Rattle.method.specs.words.Bounds.{bound}
+use Rattle.method.specs.words.Shifts.{Each}
+use Rattle.method.specs.words.Sessions.{Answer, joined, AnswersInWords}
+use Rattle.method.specs.words.Corridor.{margin, FloorMet, at-opening, in-a-shift, Lower, exactly, at-floor, Outward}
+use Rattle.method.specs.words.Rules.{Opens, Moment, start, Centres, HalfWidthsGrow, ShiftsWithin, NeverInward, UpperInside, LowerInside}
+use Rattle.method.specs.laws.Seen.{Shifted, StaysFrozen}
+use Rattle.method.specs.laws.Laws.{FrozenTells, FrozenForGood, LinesShifted, OneLine, AnswersLead, ShiftsLead}
+use Rattle.method.specs.computed.Opening.{ids}
+use Rattle.method.specs.computed.Later.{Later}
+use Rattle.method.specs.computed.Rooms.{OpeningIn, Room}
+use Rattle.method.specs.computed.Sound.{Distinct}
 use Rattle.method.proofs.Each.{each-weaker, each-with}
 use Rattle.method.proofs.Table.{accepted-table, table-most}
 use Rattle.method.proofs.TableAnswered.{answered-table}

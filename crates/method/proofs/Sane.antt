@@ -2,10 +2,10 @@
 use mathlib.Core.Path.{_≡_, subst}
 use Prim.Native.Nat.{ℕ, suc, _-_, _≤_, _<_}
 use native.Mathlib.Omega.{arith}
-use Rattle.method.specs.Types.{Side, Seconds, Event, Damaged, Tick, Quoted, State, EventAnswer}
-use Rattle.method.specs.Shift.{shift-line, shifted}
-use Rattle.method.specs.Event.{verdict, applied}
-use Rattle.method.specs.Ranges.{LineIn, OpeningIn, Room, Sane, EventIn}
+use Rattle.method.specs.words.Types.{Side, Seconds, Event, Damaged, Tick, Quoted, State, EventAnswer}
+use Rattle.method.specs.computed.Shift.{shift-line, shifted}
+use Rattle.method.specs.computed.Event.{verdict, applied}
+use Rattle.method.specs.computed.Rooms.{LineIn, OpeningIn, Room, Sane, EventIn}
 use Rattle.method.proofs.Every.{every-map, every-weaker}
 use Rattle.method.proofs.Every.{every-quoted}
 use Rattle.method.proofs.Events.{on-time}

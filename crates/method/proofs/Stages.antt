@@ -5,14 +5,15 @@ use mathlib.Core.Logic.{_⊎_, inl, inr, ⊎-elim}
 use mathlib.Core.List.{List, [], _∷_, _++_}
 use Prim.Native.Nat.{ℕ, _≤_, _<_}
 use native.Mathlib.Omega.{arith}
-use Rattle.method.specs.Types.{Side, Seconds, Since, Event, ShiftLine, State}
-use Rattle.method.specs.Shift.{onward, after}
-use Rattle.method.specs.Event.{read, Answer, accepted, refused, next}
-use Rattle.method.specs.CalledFor.{time, Right, Answers, reached}
-use Rattle.method.specs.Ranges.{Every}
-use Rattle.method.specs.Sound.{Sound}
-use Rattle.method.specs.Rule2Words.{hold-at, Precedes, before, up-down, Rising, Timely}
-use Rattle.method.specs.Sessions.{Stage, Pressing, Begun, Throughout}
+use Rattle.method.specs.words.Types.{Side, Seconds, Since, Event, ShiftLine, State}
+use Rattle.method.specs.words.Ranges.{Every}
+use Rattle.method.specs.words.Sessions.{Answer, accepted, refused}
+use Rattle.method.specs.laws.Seen.{hold-at, Precedes, before, up-down, Rising, Timely}
+use Rattle.method.specs.laws.Stages.{Stage, Pressing, Begun, Throughout}
+use Rattle.method.specs.computed.Shift.{onward, after}
+use Rattle.method.specs.computed.Event.{read, next}
+use Rattle.method.specs.computed.Relation.{time, Right, Answers, reached}
+use Rattle.method.specs.computed.Sound.{Sound}
 use Rattle.method.proofs.Every.{every-weaker, every-front}
 use Rattle.method.proofs.HoldLife.{Judged, applied-life, life-since, held-pressed}
 use Rattle.method.proofs.Serving.{judged-onward, onward-held, calls-rising, after-judged}

@@ -3,15 +3,15 @@
 use mathlib.Core.Path.{_≡_, refl, sym, ap, _∙_, subst}
 use mathlib.Core.List.{List, [], _∷_, _++_, append-assoc}
 use Prim.Native.Nat.{ℕ, _≤_}
-use Rattle.method.specs.Types.{ShiftLine, State, EventAnswer}
-use Rattle.method.specs.Event.{read, verdict, Answer, accepted, refused, next}
-use Rattle.method.specs.CalledFor.{time, Right, joined}
-use Rattle.method.specs.Search.{serve, answer, run, finally}
-use Rattle.method.specs.Ranges.{Every}
-use Rattle.method.specs.Sound.{Proper}
-use Rattle.method.specs.Rule1Words.{EventAnswered}
-use Rattle.method.specs.InWords.{Follows, AnswersInWords, no-more, taken, turned-away}
-use Rattle.method.specs.Ticks.{Accepts, Refuses, Put, TwoLooksAreOne, Same, Thinned, none, kept, dropped-refused, dropped-free}
+use Rattle.method.specs.words.Types.{ShiftLine, State, EventAnswer}
+use Rattle.method.specs.words.Ranges.{Every}
+use Rattle.method.specs.words.Events.{EventAnswered}
+use Rattle.method.specs.words.Sessions.{Answer, accepted, refused, joined, Follows, AnswersInWords, no-more, taken, turned-away}
+use Rattle.method.specs.laws.Ticks.{Accepts, Refuses, Put, TwoLooksAreOne, Same, Thinned, none, kept, dropped-refused, dropped-free}
+use Rattle.method.specs.computed.Event.{read, verdict, next}
+use Rattle.method.specs.computed.Relation.{time, Right}
+use Rattle.method.specs.computed.Search.{serve, answer, run, finally}
+use Rattle.method.specs.computed.Sound.{Proper}
 use Rattle.method.proofs.Every.{every-weaker}
 use Rattle.method.proofs.EventAnswered.{event-answered, answered-verdict}
 use Rattle.method.proofs.Serving.{serve-calls}

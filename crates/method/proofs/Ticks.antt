@@ -1,11 +1,11 @@
 -- Ticks are free: a theorem for each statement of specs/Ticks. Assumes nothing.
 use mathlib.Core.Path.{sym, _∙_, subst}
 use mathlib.Core.List.{_∷_, _++_, append-assoc}
-use Rattle.method.specs.Types.{State}
-use Rattle.method.specs.Sound.{Proper}
-use Rattle.method.specs.Rule1Words.{Unknown, tick-taken, quote-taken}
-use Rattle.method.specs.Sessions.{Opens}
-use Rattle.method.specs.Ticks.{Repeats, TicksAreFree, TickAcceptable, RepeatAcceptable, ThinnedIsSame, AlikeIsSame, PutIsAlike}
+use Rattle.method.specs.words.Types.{State}
+use Rattle.method.specs.words.Events.{Unknown, tick-taken, quote-taken}
+use Rattle.method.specs.words.Rules.{Opens}
+use Rattle.method.specs.laws.Ticks.{Repeats, TicksAreFree, TickAcceptable, RepeatAcceptable, ThinnedIsSame, AlikeIsSame, PutIsAlike}
+use Rattle.method.specs.computed.Sound.{Proper}
 use Rattle.method.proofs.TableAnswered.{answered-table}
 use Rattle.method.proofs.EventAnswered.{answered-verdict}
 use Rattle.method.proofs.OneSession.{told-from, opens-proper, run-in-words}

@@ -5,7 +5,7 @@ use Prim.Native.Nat.{ℕ, _/_, _%_}
 use lib.Dec.{eqb, ltb}
 use lib.IntN.{ℤ, pos, negsuc}
 use lib.ListN.{getD}
-use Rattle.method.specs.Types.{steps, seconds, billionths}
+use Rattle.method.specs.words.Types.{steps, seconds, billionths}
 use Rattle.packed.specs.Names.{Price, Absent, Given, Hold, Idle, Since, Line}
 
 -- ---- one number

@@ -1,7 +1,7 @@
 // What numbers say: a word, a price, a hold, and the line that a row has. Any numbers say something.
 
 ghost use mathlib.Core.Path.{_≡_};
-ghost use Rattle.method.specs.Types.{steps};
+ghost use Rattle.method.specs.words.Types.{steps};
 ghost use Rattle.packed.specs.Packed.{word-in, mark-in, signed-in, price-in, hold-in, line-in};
 use method::Book;
 use method::Factors;

@@ -9,8 +9,8 @@ use mir.Val.{SFits}
 use Rattle.numbers.specs.Ranges.{Within}
 use Rattle.numbers.proofs.Ranges.{fits, within-more, within-sub, within-mul, within-pos, within-lit}
 use Rattle.numbers.proofs.Machine.{cast-back}
-use Rattle.method.specs.Pressure.{price}
-use Rattle.method.specs.Ranges.{PriceIn, BookIn}
+use Rattle.method.specs.words.Pressure.{price}
+use Rattle.method.specs.computed.Rooms.{PriceIn, BookIn}
 use Rattle.pressure.specs.Names.{Side, Up, Down, Steps, Limits, Price, Given, Book}
 use Rattle.pressure.specs.Asks.{Apart}
 

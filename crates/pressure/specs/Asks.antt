@@ -2,7 +2,7 @@
 use Prim.Native.Nat.{ℕ, _≤_}
 use lib.IntN.{ℤ}
 use Rattle.numbers.specs.Ranges.{Within}
-use Rattle.method.specs.Ranges.{PriceIn, BookIn}
+use Rattle.method.specs.computed.Rooms.{PriceIn, BookIn}
 use Rattle.pressure.specs.Names.{Millionths, Limits, Price, Line}
 
 pub record LimitsWithin (k : Limits) : Type 0 where

@@ -2,7 +2,8 @@
 
 ghost use mathlib.Core.Path.{_≡_};
 ghost use lib.IntN.{_-ℤ_};
-ghost use Rattle.method.specs.Pressure.{near-by, close, price, presses, judged, judge};
+ghost use Rattle.method.specs.words.Pressure.{near-by, close, price, presses};
+ghost use Rattle.method.specs.computed.Judge.{judged, judge};
 ghost use Rattle.pressure.specs.Asks.{Apart, Tested, Pressed};
 use method::Book;
 use method::Hold;

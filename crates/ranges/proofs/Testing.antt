@@ -7,7 +7,7 @@ use Prim.Native.Nat.{ℕ, suc, _+_, _≤_, _<_}
 use native.Mathlib.Numerals.{add-one}
 use lib.ListN.{length, getD, take, drop}
 use Rattle.numbers.proofs.Arrays.{passing, all-passed}
-use Rattle.method.specs.Table.{key-good, bad-key}
+use Rattle.method.specs.computed.Table.{key-good, bad-key}
 use Rattle.ranges.specs.Names.{Key}
 use Rattle.ranges.specs.BadKey.{line-or-zero}
 

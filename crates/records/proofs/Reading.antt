@@ -8,7 +8,7 @@ use lib.IntN.{ℤ}
 use lib.ListN.{length, set}
 use Rattle.numbers.specs.Arrays.{padded}
 use Rattle.numbers.proofs.Arrays.{padded-set}
-use Rattle.method.specs.Table.{key-at, keys-at}
+use Rattle.method.specs.words.Layout.{key-at, keys-at}
 use Rattle.records.specs.Names.{Key, Contract}
 use Rattle.records.specs.Keys.{no-key}
 

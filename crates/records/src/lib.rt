@@ -4,7 +4,7 @@ ghost use mathlib.Core.Path.{_≡_};
 ghost use Prim.Native.Nat.{_+_, _*_, _≤_};
 ghost use lib.ListN.{length};
 ghost use Rattle.numbers.specs.Arrays.{padded};
-ghost use Rattle.method.specs.Table.{header-of, key-at, contract-at, keys-at};
+ghost use Rattle.method.specs.words.Layout.{header-of, key-at, contract-at, keys-at};
 ghost use Rattle.records.specs.Keys.{no-key};
 use method::Contract;
 use method::Header;

@@ -3,7 +3,7 @@ use Prim.Native.Nat.{ℕ}
 use native.Mathlib.Omega.{arith}
 use Rattle.numbers.specs.Ranges.{Within}
 use Rattle.numbers.proofs.Ranges.{within-more}
-use Rattle.method.specs.Ranges.{HoldIn, Room}
+use Rattle.method.specs.computed.Rooms.{HoldIn, Room}
 use Rattle.method.specs.declared.Line.{Line}
 use Rattle.method.proofs.Rooms.{span-within}
 use Rattle.bounds.specs.Asks.{Drawn}

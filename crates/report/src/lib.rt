@@ -3,10 +3,10 @@
 ghost use mathlib.Core.Path.{_≡_};
 ghost use Prim.Native.Nat.{_≤_};
 ghost use Rattle.numbers.specs.Ranges.{Within};
-ghost use Rattle.method.specs.Event.{placed};
-ghost use Rattle.method.specs.Report.{market-bounds, interest-bounds, hold-report, line-report};
-ghost use Rattle.method.specs.Program.{closing-row};
-ghost use Rattle.method.specs.Ranges.{HoldIn, Room};
+ghost use Rattle.method.specs.told.Questions.{placed};
+ghost use Rattle.method.specs.told.Report.{market-bounds, interest-bounds, hold-report, line-report};
+ghost use Rattle.method.specs.told.Rows.{closing-row};
+ghost use Rattle.method.specs.computed.Rooms.{HoldIn, Room};
 ghost use Rattle.bounds.specs.Asks.{Drawn};
 use method::BothBounds;
 use method::Closing;

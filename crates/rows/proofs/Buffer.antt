@@ -10,7 +10,7 @@ use lib.ListN.{length, getD, set, take, drop, length-append, length-drop, length
 use lib.Seq.{paste, paste-zero, paste-suc, take-suc, take-length, length-take-le, take-at, drop-at, drop-drop}
 use Rattle.method.specs.declared.Row.{Row}
 use Rattle.method.specs.declared.Row.the-variants as Row
-use Rattle.method.specs.Program.{row-numbers, numbers-of}
+use Rattle.method.specs.told.Rows.{row-numbers, numbers-of}
 use Rattle.rows.specs.Buffer.{written}
 
 module _ (out : List ℤ) (at : ℕ) (xs : List ℤ) (i : ℕ) {now : List ℤ} (copied : now ≡ paste out at xs i) where

@@ -4,8 +4,8 @@ use mathlib.Core.List.{List, [], _++_}
 use Prim.Native.Nat.{ℕ, _+_, _*_}
 use native.Mathlib.Omega.{arith}
 use lib.ListN.{length, length-append}
-use Rattle.method.specs.Search.{finally}
-use Rattle.method.specs.Program.{pieces}
+use Rattle.method.specs.told.Program.{pieces}
+use Rattle.method.specs.computed.Search.{finally}
 use Rattle.corridor.specs.declared.Session.{Session}
 use Rattle.corridor.specs.View.{Valid}
 use Rattle.corridor.specs.Feeding.{left-by}

@@ -9,7 +9,7 @@ use lib.Dec.{ltb}
 use lib.ListN.{length, take, drop, length-append, length-drop}
 use lib.Seq.{length-take-le}
 use Rattle.method.specs.declared.Header.{Header}
-use Rattle.method.specs.Table.{table-length}
+use Rattle.method.specs.words.Layout.{table-length}
 use Rattle.session.specs.Reading.{table-end}
 
 -- the header by itself at least, and the longest table at most

@@ -8,10 +8,14 @@ use borrow.Author.Tests.{ltb-true}
 use lib.Dec.{ltb}
 use lib.ListN.{take, drop}
 use Rattle.method.specs.declared.Row.the-variants as Row
-use Rattle.method.specs.Types.{State}
-use Rattle.method.specs.Table.{Opening, opened, refused, header-of, table-length, opening}
-use Rattle.method.specs.Search.{run, finally}
-use Rattle.method.specs.Program.{rows-of-all, closing-row, session-rows, events-of, rows-after, program, numbers-of}
+use Rattle.method.specs.words.Types.{State}
+use Rattle.method.specs.words.Layout.{header-of, table-length}
+use Rattle.method.specs.words.Tables.{Opening, opened, refused}
+use Rattle.method.specs.told.Rows.{rows-of-all, closing-row, numbers-of}
+use Rattle.method.specs.told.Program.{events-of}
+use Rattle.method.specs.computed.Table.{opening}
+use Rattle.method.specs.computed.Search.{run, finally}
+use Rattle.method.specs.computed.Program.{session-rows, rows-after, program}
 use Rattle.rows.proofs.Buffer.{numbers-append, numbers-one}
 use Rattle.corridor.specs.declared.Session.{Session}
 use Rattle.corridor.specs.View.{view, put, no-session, opened-session, Valid}

@@ -5,8 +5,9 @@ use lib.IntN.{ℤ}
 use Rattle.method.specs.declared.TableAnswer.{TableAnswer}
 use Rattle.method.specs.declared.TableAnswer.the-variants.{Opened, Refused}
 use Rattle.method.specs.declared.Row.the-variants as Row
-use Rattle.method.specs.Table.{Opening, opening}
-use Rattle.method.specs.Program.{row-numbers}
+use Rattle.method.specs.words.Tables.{Opening}
+use Rattle.method.specs.told.Rows.{row-numbers}
+use Rattle.method.specs.computed.Table.{opening}
 use Rattle.corridor.specs.declared.Session.{Session}
 use Rattle.corridor.specs.View.{opened-session}
 use Rattle.corridor.specs.Chunks.{told-in, left-in}

@@ -4,7 +4,7 @@ ghost use mathlib.Core.Path.{_≡_};
 ghost use Prim.Native.Nat.{_≤_};
 ghost use lib.ListN.{length};
 ghost use Rattle.io.specs.Counts.{Counts};
-ghost use Rattle.method.specs.Table.{header-of};
+ghost use Rattle.method.specs.words.Layout.{header-of};
 ghost use Rattle.corridor.specs.View.{Valid};
 ghost use Rattle.session.specs.Reading.{table-end};
 use corridor::Session;

@@ -8,9 +8,8 @@ use lib.ListN.{length}
 use Rattle.method.specs.declared.ShiftLine.{ShiftLine}
 use Rattle.method.specs.declared.Row.{Row}
 use Rattle.method.specs.declared.Row.the-variants as Row
-use Rattle.method.specs.Event.{Answer, accepted, refused}
-use Rattle.method.specs.CalledFor.{joined}
-use Rattle.method.specs.Program.{rows-of, rows-of-all, row-numbers, numbers-of}
+use Rattle.method.specs.words.Sessions.{Answer, accepted, refused, joined}
+use Rattle.method.specs.told.Rows.{rows-of, rows-of-all, row-numbers, numbers-of}
 use Rattle.rows.proofs.Buffer.{numbers-long}
 use Rattle.sites.specs.Sites.{shifts-among, OnlyShiftsAreLines}
 

@@ -6,9 +6,13 @@ use lib.IntN.{ℤ}
 use lib.ListN.{length, take}
 use lib.Seq.{take-at}
 use Rattle.method.specs.declared.Row.the-variants as Row
-use Rattle.method.specs.CalledFor.{joined}
-use Rattle.method.specs.Search.{run}
-use Rattle.method.specs.Program.{events-of, numbers-of}
+use Rattle.method.specs.words.Types.{State}
+use Rattle.method.specs.words.Sessions.{joined}
+use Rattle.method.specs.told.Rows.{numbers-of}
+use Rattle.method.specs.told.Program.{events-of}
+use Rattle.method.specs.computed.Search.{run, finally}
+use Rattle.method.specs.computed.Sound.{Proper}
+use Rattle.method.proofs.OneSession.{run-in-words}
 use Rattle.method.proofs.Ticks.{alike-is-same}
 use Rattle.corridor.specs.declared.Session.{Session}
 use Rattle.corridor.specs.declared.Fed.{Fed}
@@ -25,10 +29,13 @@ use Rattle.sites.proofs.Rows.{only-shifts-are-lines}
 -- ---- handed to `event`
 pub events-alike : EventsAlike
 events-alike s bs ds v a =
-    let h = alike-is-same (view s) bs ds (v .sound) a .found in
+    let x : State = view s in
+    let found = run-in-words x (v .sound) (v .distinct) in
+    let p : Proper x = record { sane = v .sane; sound = v .sound; distinct = v .distinct } in
+    let h = alike-is-same x bs ds p a (run x bs) (run x ds) (finally x bs) (finally x ds) (found bs) (found ds) in
     record {
-      lines = ap joined (answers-are s bs) ∙ h .lines ∙ sym (ap joined (answers-are s ds));
-      session = session-left s bs v ∙ ap (put s) (h .session) ∙ sym (session-left s ds v);
+      lines = ap joined (answers-are s bs) ∙ h .0 ∙ sym (ap joined (answers-are s ds));
+      session = session-left s bs v ∙ ap (put s) (h .1) ∙ sym (session-left s ds v);
     }
 
 -- ---- the bytes b, told in rows: what the same events come to that are handed over

@@ -9,10 +9,10 @@ use lib.IntN.{ℤ, pos}
 use lib.ListN.{length, getD, take, drop}
 use Rattle.numbers.specs.Tests.{same}
 use Rattle.method.specs.declared.Row.the-variants as Row
-use Rattle.method.specs.Event.{Answer}
-use Rattle.method.specs.CalledFor.{joined}
-use Rattle.method.specs.Program.{rows-of-all, events-of, numbers-of}
-use Rattle.method.specs.Ticks.{Alike}
+use Rattle.method.specs.words.Sessions.{Answer, joined}
+use Rattle.method.specs.laws.Ticks.{Alike}
+use Rattle.method.specs.told.Rows.{rows-of-all, numbers-of}
+use Rattle.method.specs.told.Program.{events-of}
 use Rattle.corridor.specs.declared.Session.{Session}
 use Rattle.corridor.specs.declared.RowsAnswer.{RowsAnswer}
 use Rattle.corridor.specs.declared.Fed.{Fed}

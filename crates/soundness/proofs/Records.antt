@@ -16,11 +16,11 @@ use Rattle.numbers.proofs.Halves.{zarith, sub-is, neg-is}
 use Rattle.numbers.proofs.Ranges.{fits, within-more, within-pos, within-lit, within-sub}
 use Rattle.numbers.proofs.Tests.{never-both, in-span-true, within-in}
 use Rattle.numbers.proofs.Deciding.{decided}
-use Rattle.method.specs.Opening.{permits-negative}
-use Rattle.method.specs.Bounds.{bound}
-use Rattle.method.specs.Pressure.{presses}
-use Rattle.method.specs.Ranges.{reach, TermsIn, MarketRoom, Floor, LimitsRoom, PriceIn, HoldIn, Room}
-use Rattle.method.specs.Sound.{standing, Exact}
+use Rattle.method.specs.words.Ranges.{permits-negative}
+use Rattle.method.specs.words.Bounds.{bound}
+use Rattle.method.specs.words.Pressure.{presses}
+use Rattle.method.specs.computed.Rooms.{reach, TermsIn, MarketRoom, Floor, LimitsRoom, PriceIn, HoldIn, Room}
+use Rattle.method.specs.computed.Sound.{standing, Exact}
 use Rattle.method.proofs.Rooms.{span-within, upper-in, lower-in}
 use Rattle.bounds.specs.Asks.{Drawn}
 use Rattle.pressure.specs.Asks.{Pressed}

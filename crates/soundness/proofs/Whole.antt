@@ -5,11 +5,13 @@ use Prim.Native.Nat.{ℕ, zero, suc, _≤_, _<_}
 use native.Mathlib.Omega.{arith}
 use lib.ListN.{length, getD, take}
 use lib.Seq.{take-suc, getD-take, length-take-le}
-use Rattle.method.specs.Types.{State, blank}
-use Rattle.method.specs.CalledFor.{Done, Calls}
-use Rattle.method.specs.Search.{earliest, in-time, next-due, serve}
-use Rattle.method.specs.Ranges.{Every, Room}
-use Rattle.method.specs.Sound.{Exact}
+use Rattle.method.specs.words.Types.{State, blank}
+use Rattle.method.specs.words.Ranges.{Every}
+use Rattle.method.specs.words.Holds.{Done}
+use Rattle.method.specs.computed.Relation.{Calls}
+use Rattle.method.specs.computed.Search.{earliest, in-time, next-due, serve}
+use Rattle.method.specs.computed.Rooms.{Room}
+use Rattle.method.specs.computed.Sound.{Exact}
 use Rattle.method.proofs.Every.{every-at, every-last}
 use Rattle.method.proofs.FirstFound.{FoundIn, next-due-found}
 use Rattle.method.proofs.HoldLife.{Judged}

@@ -3,8 +3,8 @@
 
 ghost use Prim.Native.Nat.{_≤_};
 ghost use Rattle.numbers.specs.Decides.{Decides};
-ghost use Rattle.method.specs.Ranges.{Room};
-ghost use Rattle.method.specs.Sound.{Exact};
+ghost use Rattle.method.specs.computed.Rooms.{Room};
+ghost use Rattle.method.specs.computed.Sound.{Exact};
 use method::Line;
 use numbers::Millionths;
 

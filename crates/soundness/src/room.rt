@@ -4,7 +4,7 @@ ghost use mathlib.Core.Path.{_≡_};
 ghost use Prim.Native.Nat.{_≤_};
 ghost use lib.IntN.{pos, negℤ};
 ghost use Rattle.numbers.specs.Decides.{Decides};
-ghost use Rattle.method.specs.Ranges.{FactorsIn, TermsIn, reach, MarketRoom, Floor, LimitsRoom, PriceIn, BookIn, HoldIn, HoldsIn, Room};
+ghost use Rattle.method.specs.computed.Rooms.{FactorsIn, TermsIn, reach, MarketRoom, Floor, LimitsRoom, PriceIn, BookIn, HoldIn, HoldsIn, Room};
 ghost use Rattle.bounds.specs.Asks.{Drawn};
 use method::Book;
 use method::Hold;

@@ -10,10 +10,11 @@ use Rattle.numbers.proofs.Arrays.{padded-length}
 use Rattle.method.specs.declared.EventAnswer.{EventAnswer}
 use Rattle.method.specs.declared.ShiftLine.{ShiftLine}
 use Rattle.method.specs.declared.Row.the-variants as Row
-use Rattle.method.specs.Event.{read, Answer, accepted, refused}
-use Rattle.method.specs.CalledFor.{Right, Answers}
-use Rattle.method.specs.Search.{answer, run}
-use Rattle.method.specs.Program.{rows-of, numbers-of}
+use Rattle.method.specs.words.Sessions.{Answer, accepted, refused}
+use Rattle.method.specs.told.Rows.{rows-of, numbers-of}
+use Rattle.method.specs.computed.Event.{read}
+use Rattle.method.specs.computed.Relation.{Right, Answers}
+use Rattle.method.specs.computed.Search.{answer, run}
 use Rattle.method.proofs.Answers.{next-count, run-right}
 use Rattle.rows.specs.Buffer.{written}
 use Rattle.rows.proofs.Buffer.{numbers-long}

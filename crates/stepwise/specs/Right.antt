@@ -5,13 +5,15 @@ use Prim.Native.Nat.{ℕ, _≤_}
 use lib.IntN.{ℤ}
 use lib.ListN.{length}
 use Rattle.method.specs.declared.Side.the-variants.{Up, Down}
-use Rattle.method.specs.Types.{State}
-use Rattle.method.specs.Table.{opened, opening}
-use Rattle.method.specs.Event.{Answer}
-use Rattle.method.specs.CalledFor.{Answers, reached, joined}
-use Rattle.method.specs.Program.{rows-of-all, events-of, numbers-of}
-use Rattle.method.specs.Rule2Words.{Each}
-use Rattle.method.specs.Rule3Words.{count, Shifted}
+use Rattle.method.specs.words.Types.{State}
+use Rattle.method.specs.words.Tables.{opened}
+use Rattle.method.specs.words.Shifts.{Each, count}
+use Rattle.method.specs.words.Sessions.{Answer, joined}
+use Rattle.method.specs.laws.Seen.{Shifted}
+use Rattle.method.specs.told.Rows.{rows-of-all, numbers-of}
+use Rattle.method.specs.told.Program.{events-of}
+use Rattle.method.specs.computed.Table.{opening}
+use Rattle.method.specs.computed.Relation.{Answers, reached}
 use Rattle.rows.specs.Buffer.{written}
 use Rattle.corridor.specs.declared.Session.{Session}
 use Rattle.corridor.specs.declared.RowsAnswer.{RowsAnswer}

@@ -5,8 +5,8 @@ use lib.IntN.{ℤ}
 use lib.ListN.{take}
 use Rattle.method.specs.declared.EventAnswer.{EventAnswer}
 use Rattle.method.specs.declared.ShiftLine.{ShiftLine}
-use Rattle.method.specs.Search.{answered}
-use Rattle.method.specs.Program.{rows-of, numbers-of}
+use Rattle.method.specs.told.Rows.{rows-of, numbers-of}
+use Rattle.method.specs.computed.Search.{answered}
 
 -- of an answer, its array of shift lines, and how many of them are made
 abbrev pub told-of : EventAnswer → List ShiftLine → ℕ → List ℤ

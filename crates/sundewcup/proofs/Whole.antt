@@ -8,10 +8,13 @@ use borrow.Author.Tests.{lt-ltb, le-ltb}
 use lib.IntN.{ℤ}
 use lib.ListN.{length, take, drop, length-append, length-drop, drop-of-length-le}
 use lib.Seq.{take-all}
-use Rattle.method.specs.Types.{State}
-use Rattle.method.specs.Table.{Opening, opened, refused, opening}
-use Rattle.method.specs.Search.{run, finally}
-use Rattle.method.specs.Program.{rows-of-all, closing-row, session-rows, events-of, rows-after, row-numbers, numbers-of}
+use Rattle.method.specs.words.Types.{State}
+use Rattle.method.specs.words.Tables.{Opening, opened, refused}
+use Rattle.method.specs.told.Rows.{rows-of-all, closing-row, row-numbers, numbers-of}
+use Rattle.method.specs.told.Program.{events-of}
+use Rattle.method.specs.computed.Table.{opening}
+use Rattle.method.specs.computed.Search.{run, finally}
+use Rattle.method.specs.computed.Program.{session-rows, rows-after}
 use Rattle.method.specs.declared.Row.{Row}
 use Rattle.method.specs.declared.Row.the-variants as Row
 use Rattle.method.specs.declared.TableAnswer.{TableAnswer}

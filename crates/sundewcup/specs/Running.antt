@@ -5,8 +5,10 @@ use Prim.Native.Nat.{ℕ}
 use lib.Dec.{ltb}
 use lib.IntN.{ℤ}
 use lib.ListN.{length}
-use Rattle.method.specs.Table.{opening}
-use Rattle.method.specs.Program.{events-of, rows-after, numbers-of}
+use Rattle.method.specs.told.Rows.{numbers-of}
+use Rattle.method.specs.told.Program.{events-of}
+use Rattle.method.specs.computed.Table.{opening}
+use Rattle.method.specs.computed.Program.{rows-after}
 use Rattle.rows.specs.Buffer.{written, room as rows-room}
 use Rattle.corridor.specs.declared.RowsAnswer.{RowsAnswer}
 

@@ -7,9 +7,11 @@ use native.Mathlib.Omega.{arith}
 use lib.ListN.{length, set, take, length-append}
 use Rattle.numbers.specs.Arrays.{padded}
 use Rattle.numbers.proofs.Arrays.{padded-set, padded-take}
-use Rattle.method.specs.Opening.{open-line}
-use Rattle.method.specs.Table.{contract-at, contracts-at, opened, refused, opening-state, open-lines}
-use Rattle.method.specs.Types.{blank}
+use Rattle.method.specs.words.Types.{blank}
+use Rattle.method.specs.words.Layout.{contract-at, contracts-at}
+use Rattle.method.specs.words.Tables.{opened, refused, opening-state}
+use Rattle.method.specs.computed.Opening.{open-line}
+use Rattle.method.specs.computed.Table.{open-lines}
 use Rattle.table.specs.Names.{Header, Key, Contract, Line, LineAnswer, TableAnswer, TableReason}
 use Rattle.table.specs.declared.Opened.{Opened}
 use Rattle.table.specs.Opened.{opened-as}

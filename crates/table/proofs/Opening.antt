@@ -4,9 +4,10 @@ use mathlib.Core.List.{List}
 use Prim.Native.Nat.{ℕ, _≤_}
 use lib.Dec.{lit≤}
 use Rattle.numbers.proofs.Ranges.{within-more}
-use Rattle.method.specs.Growth.{rate-at, exponent, most-exponent}
-use Rattle.method.specs.Opening.{exponent-of, terms-of, market-of}
-use Rattle.method.specs.Ranges.{ContractIn, FactorsIn}
+use Rattle.method.specs.words.Ranges.{ContractIn}
+use Rattle.method.specs.words.Growth.{rate-at, exponent, most-exponent}
+use Rattle.method.specs.words.Opening.{exponent-of, terms-of, market-of}
+use Rattle.method.specs.computed.Rooms.{FactorsIn}
 use Rattle.method.proofs.Growth.{factors-in}
 use Rattle.method.proofs.Opening.{market-in}
 use Rattle.method.proofs.Rooms.{span-within}

@@ -9,7 +9,9 @@ use borrow.Author.Tests.{le-leb, lt-leb, eq-eqb, ne-eqb}
 use lib.ListN.{length, take}
 use Rattle.numbers.specs.Arrays.{padded}
 use Rattle.numbers.proofs.Arrays.{padded-take}
-use Rattle.method.specs.Table.{header-of, keys-at, contracts-start, contracts-at, header-good, laid-out, key-good, bad-key, refused, open-lines, if-keys-good, open-records, opening}
+use Rattle.method.specs.words.Layout.{header-of, keys-at, contracts-start, contracts-at}
+use Rattle.method.specs.words.Tables.{refused}
+use Rattle.method.specs.computed.Table.{header-good, laid-out, key-good, bad-key, open-lines, if-keys-good, open-records, opening}
 use Rattle.method.proofs.Decided.{laid-in}
 use Rattle.method.proofs.Table.{header-in, keys-in}
 use Rattle.records.specs.Keys.{no-key}

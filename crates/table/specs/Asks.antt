@@ -3,8 +3,8 @@ use mathlib.Core.List.{List}
 use Prim.Native.Nat.{ℕ, _≤_}
 use lib.ListN.{take}
 use Rattle.numbers.specs.Ranges.{Between}
-use Rattle.method.specs.Table.{table-length}
-use Rattle.method.specs.Ranges.{HeaderIn, KeysIn}
+use Rattle.method.specs.words.Layout.{table-length}
+use Rattle.method.specs.words.Ranges.{HeaderIn, KeysIn}
 use Rattle.table.specs.Names.{Millionths, Header, Key}
 
 -- the shift share and the first n of 16 keys, checked

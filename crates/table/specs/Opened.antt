@@ -2,8 +2,8 @@
 -- numbers. Where the table is refused, no lines, end 0, no shifts, and the least hold and near share stand beside the answer.
 use lib.ListN.{length, replicate}
 use Rattle.numbers.specs.Arrays.{padded}
-use Rattle.method.specs.Table.{Opening, opened, refused}
-use Rattle.method.specs.Types.{blank}
+use Rattle.method.specs.words.Types.{blank}
+use Rattle.method.specs.words.Tables.{Opening, opened, refused}
 use Rattle.table.specs.Names.{TableAnswer}
 use Rattle.table.specs.declared.Opened.{Opened}
 

@@ -9,7 +9,7 @@ use borrow.Author.Tests.{eq-eqb, ne-eqb, lt-ltb, le-ltb}
 use lib.Dec.{eqb, ltb}
 use lib.ListN.{length, getD, drop}
 use lib.Seq.{drop-cons, drop-length}
-use Rattle.method.specs.Sound.{Distinct}
+use Rattle.method.specs.computed.Sound.{Distinct}
 use Rattle.method.proofs.Every.{every-at}
 use Rattle.verdict.specs.Names.{Event, Damaged, Tick, Quoted}
 use Rattle.verdict.specs.Screened.{slot-of, place-of}

@@ -1,8 +1,8 @@
 // Whether an event is taken, and what it then changes.
 
 ghost use mathlib.Core.Path.{_≡_};
-ghost use Rattle.method.specs.Sound.{Distinct};
-ghost use Rattle.method.specs.Event.{not-crossed};
+ghost use Rattle.method.specs.computed.Event.{not-crossed};
+ghost use Rattle.method.specs.computed.Sound.{Distinct};
 ghost use Rattle.verdict.specs.Screened.{slot-of, place-of, timely, quote-screened, screened};
 use method::Event;
 use method::EventReason;

@@ -7,7 +7,7 @@ use native.Mathlib.Omega.{arith}
 use borrow.Author.Tests.{eq-eqb, ne-eqb, eqb-true, eqb-false, ltb-true, ltb-false}
 use lib.Bits.{bitAnd, bitOr, and-step, and-mask}
 use lib.Dec.{eqb, ltb, lit<}
-use Rattle.method.specs.Wire.{bit}
+use Rattle.method.specs.words.Wire.{bit}
 
 pub bit-0-is : (flags : ℕ) → eqb (bitAnd flags 1) 1 ≡ bit 0 flags
 unfolding bit

@@ -11,7 +11,7 @@ use mir.Val.{SFits, toZ, ofZ}
 use mir.Facts.{toZ-ofZ}
 use Rattle.numbers.proofs.Ranges.{fits, within-sub, within-pos}
 use Rattle.numbers.proofs.Machine.{cast-back}
-use Rattle.method.specs.Wire.{signed}
+use Rattle.method.specs.words.Wire.{signed}
 
 pub low : (n : ℕ) → n < 2_147_483_648 → toZ w64 n ≡ signed n
 unfolding signed

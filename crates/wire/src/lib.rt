@@ -4,7 +4,7 @@ ghost use mathlib.Core.Path.{_≡_};
 ghost use Prim.Native.Nat.{_+_, _<_, _≤_};
 ghost use lib.Dec.{ltb};
 ghost use lib.ListN.{length};
-ghost use Rattle.method.specs.Wire.{word, signed, bit};
+ghost use Rattle.method.specs.words.Wire.{word, signed, bit};
 
 // A byte as a word.
 fn wide(x: u8) -> u32

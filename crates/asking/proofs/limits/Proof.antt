@@ -2,7 +2,7 @@
 use borrow.Author.Needs.{needs}
 use mathlib.Core.Path.{sym, _∙_}
 use denote.Ref.{now}
-use Rattle.method.specs.Event.{limits}
+use Rattle.method.specs.told.Questions.{limits}
 use Rattle.corridor.specs.View.{view}
 use Rattle.corridor.specs.declared.questions.Sought.{Sought}
 use Rattle.memory.specs.Memory.{session-in}

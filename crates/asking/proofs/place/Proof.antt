@@ -4,8 +4,8 @@ use mathlib.Core.Path.{sym, ap, _∙_}
 use denote.Ref.{now}
 use mir.Facts.{toZ-ofZ}
 use lib.IntN.{ℤ}
-use Rattle.method.specs.Types.{steps}
-use Rattle.method.specs.Event.{placed}
+use Rattle.method.specs.words.Types.{steps}
+use Rattle.method.specs.told.Questions.{placed}
 use Rattle.corridor.specs.View.{view}
 use Rattle.corridor.specs.declared.questions.Sought.{Sought}
 use Rattle.memory.specs.Memory.{session-in}

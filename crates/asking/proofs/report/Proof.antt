@@ -2,8 +2,8 @@
 use borrow.Author.Needs.{needs}
 use mathlib.Core.Path.{_≡_, sym, _∙_, ap}
 use denote.Ref.{now}
-use Rattle.method.specs.Report.{report}
-use Rattle.method.specs.Ranges.{Room}
+use Rattle.method.specs.told.Report.{report}
+use Rattle.method.specs.computed.Rooms.{Room}
 use Rattle.corridor.specs.View.{view}
 use Rattle.corridor.specs.declared.questions.Sought.{Sought}
 use Rattle.reporting.specs.Told.{report-rows}

@@ -3,9 +3,9 @@ use borrow.Author.Needs.{needs}
 use mathlib.Core.Path.{_≡_, sym, ap, subst, _∙_}
 use Prim.Native.Nat.{ℕ, _≤_}
 use denote.Ref.{now}
-use Rattle.method.specs.Types.{seconds}
-use Rattle.method.specs.Report.{line-report}
-use Rattle.method.specs.Ranges.{Room}
+use Rattle.method.specs.words.Types.{seconds}
+use Rattle.method.specs.told.Report.{line-report}
+use Rattle.method.specs.computed.Rooms.{Room}
 use Rattle.asking.specs.Names.{Session}
 use Rattle.memory.specs.Memory.{session-in}
 use Rattle.memory.proofs.Places.{clock-is, hold-is, left-is}

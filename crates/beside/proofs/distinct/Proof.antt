@@ -4,7 +4,7 @@ use Prim.Native.Nat.{_-_, _≤_}
 use native.Mathlib.Omega.{arith}
 use lib.ListN.{drop}
 use Rattle.numbers.proofs.Deciding.{kept, broken}
-use Rattle.method.specs.Sound.{Distinct}
+use Rattle.method.specs.computed.Sound.{Distinct}
 use Rattle.beside.proofs.Ids.{distinct-at, distinct-more, distinct-end}
 use Rattle.beside.proofs.distinct.Statement.{statement}
 use Rattle.beside.proofs.distinct.Tie as tie

@@ -1,7 +1,7 @@
 -- `bounds::bound` meets its contract. Assumes nothing.
 use borrow.Author.Needs.{needs}
 use mathlib.Core.Path.{_∙_}
-use Rattle.method.specs.Bounds.{bound}
+use Rattle.method.specs.words.Bounds.{bound}
 use Rattle.bounds.proofs.Drawing.{drawn-factor, drawn-bound}
 use Rattle.bounds.proofs.bound.Statement.{statement}
 use Rattle.bounds.proofs.bound.Tie as tie

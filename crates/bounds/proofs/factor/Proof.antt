@@ -1,6 +1,6 @@
 -- `bounds::factor` meets its contract. Assumes nothing.
 use borrow.Author.Needs.{needs}
-use Rattle.method.specs.Bounds.{factor}
+use Rattle.method.specs.words.Bounds.{factor}
 use Rattle.bounds.proofs.factor.Statement.{statement}
 use Rattle.bounds.proofs.factor.Tie as tie
 

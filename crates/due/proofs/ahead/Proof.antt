@@ -1,7 +1,7 @@
 -- `due::ahead` meets its contract. Assumes nothing.
 use borrow.Author.Needs.{needs}
 use borrow.Author.Tests.{lt-ltb, le-ltb}
-use Rattle.method.specs.Search.{ahead}
+use Rattle.method.specs.computed.Search.{ahead}
 use Rattle.due.proofs.ahead.Statement.{statement}
 use Rattle.due.proofs.ahead.Tie as tie
 

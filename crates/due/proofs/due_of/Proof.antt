@@ -1,7 +1,7 @@
 -- `due::due_of` meets its contract. Assumes nothing.
 use borrow.Author.Needs.{needs}
 use native.Mathlib.Omega.{arith}
-use Rattle.method.specs.Search.{due-of}
+use Rattle.method.specs.computed.Search.{due-of}
 use Rattle.due.proofs.Finding.{since-in}
 use Rattle.due.proofs.due_of.Statement.{statement}
 use Rattle.due.proofs.due_of.Tie as tie

@@ -1,6 +1,6 @@
 -- `due::passed` meets its contract. Assumes nothing.
 use borrow.Author.Needs.{needs}
-use Rattle.method.specs.Search.{passed}
+use Rattle.method.specs.computed.Search.{passed}
 use Rattle.due.proofs.passed.Statement.{statement}
 use Rattle.due.proofs.passed.Tie as tie
 

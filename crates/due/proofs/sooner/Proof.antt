@@ -1,6 +1,6 @@
 -- `due::sooner` meets its contract. Assumes nothing.
 use borrow.Author.Needs.{needs}
-use Rattle.method.specs.Search.{sooner}
+use Rattle.method.specs.computed.Search.{sooner}
 use Rattle.due.proofs.sooner.Statement.{statement}
 use Rattle.due.proofs.sooner.Tie as tie
 

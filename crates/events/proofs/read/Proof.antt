@@ -1,7 +1,7 @@
 -- `events::read` meets its contract: any bytes of any length. Assumes nothing.
 use borrow.Author.Needs.{needs}
 use borrow.Author.Tests.{eq-eqb, ne-eqb}
-use Rattle.method.specs.Event.{read}
+use Rattle.method.specs.computed.Event.{read}
 use Rattle.events.proofs.read.Statement.{statement}
 use Rattle.events.proofs.read.Tie as tie
 

@@ -1,7 +1,7 @@
 -- `events::read_quote` meets its contract. Assumes nothing.
 use borrow.Author.Needs.{needs}
 use Rattle.numbers.proofs.Tests.{failed, held}
-use Rattle.method.specs.Event.{read-quote}
+use Rattle.method.specs.computed.Event.{read-quote}
 use Rattle.events.proofs.read_quote.Statement.{statement}
 use Rattle.events.proofs.read_quote.Tie as tie
 

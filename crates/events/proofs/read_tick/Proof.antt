@@ -2,7 +2,7 @@
 use borrow.Author.Needs.{needs}
 use borrow.Author.Tests.{eq-eqb, ne-eqb}
 use Rattle.numbers.proofs.Tests.{failed, held}
-use Rattle.method.specs.Event.{read-tick}
+use Rattle.method.specs.computed.Event.{read-tick}
 use Rattle.events.proofs.read_tick.Statement.{statement}
 use Rattle.events.proofs.read_tick.Tie as tie
 

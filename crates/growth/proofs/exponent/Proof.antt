@@ -3,7 +3,7 @@ use borrow.Author.Needs.{needs}
 use mathlib.Core.Path.{refl}
 use native.Mathlib.Nat.{mul-le-mul}
 use native.Mathlib.Omega.{arith}
-use Rattle.method.specs.Growth.{exponent}
+use Rattle.method.specs.words.Growth.{exponent}
 use Rattle.growth.proofs.exponent.Statement.{statement}
 use Rattle.growth.proofs.exponent.Tie as tie
 

@@ -1,7 +1,7 @@
 -- `growth::factors` meets its contract. Assumes nothing.
 use borrow.Author.Needs.{needs}
 use native.Mathlib.Omega.{arith}
-use Rattle.method.specs.Growth.{down-factor, factors-of}
+use Rattle.method.specs.words.Growth.{down-factor, factors-of}
 use Rattle.method.proofs.Growth.{up-between}
 use Rattle.growth.proofs.factors.Statement.{statement}
 use Rattle.growth.proofs.factors.Tie as tie

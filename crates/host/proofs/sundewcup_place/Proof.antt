@@ -4,8 +4,8 @@ use mathlib.Core.Path.{refl, ap, _∙_}
 use denote.Ref.{now}
 use lib.IntN.{ℤ}
 use mir.Facts.{toZ-ofZ}
-use Rattle.method.specs.Types.{steps}
-use Rattle.method.specs.Event.{place}
+use Rattle.method.specs.words.Types.{steps}
+use Rattle.method.specs.told.Questions.{place}
 use Rattle.numbers.proofs.Deciding.{granted}
 use Rattle.corridor.specs.View.{view}
 use Rattle.memory.specs.Memory.{session-in}

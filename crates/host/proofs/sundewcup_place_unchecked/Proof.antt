@@ -4,8 +4,8 @@ use mathlib.Core.Path.{ap, _∙_}
 use denote.Ref.{now}
 use lib.IntN.{ℤ}
 use mir.Facts.{toZ-ofZ}
-use Rattle.method.specs.Types.{steps}
-use Rattle.method.specs.Event.{place}
+use Rattle.method.specs.words.Types.{steps}
+use Rattle.method.specs.told.Questions.{place}
 use Rattle.corridor.specs.View.{view}
 use Rattle.memory.specs.Memory.{session-in}
 use Rattle.asking.specs.Told.{place-number}

@@ -1,7 +1,7 @@
 -- `hosting::by_value` meets its contract. Assumes nothing.
 use mathlib.Core.Path.{refl}
-use Rattle.method.specs.Event.{read}
-use Rattle.method.specs.Search.{answer}
+use Rattle.method.specs.computed.Event.{read}
+use Rattle.method.specs.computed.Search.{answer}
 use Rattle.rows.specs.Buffer.{written}
 use Rattle.corridor.specs.Engine.{reply-to}
 use Rattle.hosting.specs.Names.{Session}

@@ -5,8 +5,8 @@ use mathlib.Core.List.{List, []}
 use mathlib.Core.Logic.{⊎-elim}
 use Prim.Native.Nat.{ℕ}
 use denote.Ref.{now}
-use Rattle.method.specs.Event.{read}
-use Rattle.method.specs.Search.{serve}
+use Rattle.method.specs.computed.Event.{read}
+use Rattle.method.specs.computed.Search.{serve}
 use Rattle.rows.specs.Buffer.{written}
 use Rattle.verdict.specs.declared.Change.{Change}
 use Rattle.verdict.specs.declared.Taken.{Taken}

@@ -7,10 +7,10 @@ use native.Mathlib.Omega.{arith}
 use denote.Ref.{now}
 use lib.ListN.{set, take}
 use lib.Seq.{length-take-le}
-use Rattle.method.specs.Types.{seconds}
-use Rattle.method.specs.Opening.{ids}
-use Rattle.method.specs.Ranges.{HoldsIn}
-use Rattle.method.specs.Sound.{Distinct}
+use Rattle.method.specs.words.Types.{seconds}
+use Rattle.method.specs.computed.Opening.{ids}
+use Rattle.method.specs.computed.Rooms.{HoldsIn}
+use Rattle.method.specs.computed.Sound.{Distinct}
 use Rattle.verdict.specs.Screened.{screened}
 use Rattle.corridor.specs.View.{view}
 use Rattle.corridor.proofs.Views.{ranged}

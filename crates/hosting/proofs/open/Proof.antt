@@ -1,6 +1,6 @@
 -- `hosting::open` meets its contract. Assumes nothing.
 use denote.Ref.{now}
-use Rattle.method.specs.Table.{opening}
+use Rattle.method.specs.computed.Table.{opening}
 use Rattle.corridor.specs.declared.Opened.{Opened}
 use Rattle.corridor.specs.View.{opened-session}
 use Rattle.hosting.proofs.Replies.{table-told, table-opened}

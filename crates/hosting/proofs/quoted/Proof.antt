@@ -3,8 +3,8 @@ use borrow.Author.Needs.{needs}
 use mathlib.Core.Path.{_≡_, sym, ap, subst, _∙_}
 use denote.Ref.{now}
 use lib.ListN.{getD}
-use Rattle.method.specs.Types.{blank, millionths}
-use Rattle.method.specs.Event.{with-book, quoted-line}
+use Rattle.method.specs.words.Types.{blank, millionths}
+use Rattle.method.specs.computed.Event.{with-book, quoted-line}
 use Rattle.pressure.specs.Asks.{Pressed}
 use Rattle.hosting.specs.Names.{Millionths, Line, Session}
 use Rattle.memory.specs.Memory.{session-in, with-line}

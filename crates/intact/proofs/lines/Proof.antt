@@ -7,7 +7,7 @@ use Prim.Native.Nat.{ℕ, _≤_, _<_, _-_}
 use native.Mathlib.Omega.{arith}
 use denote.Ref.{now}
 use lib.ListN.{length, getD}
-use Rattle.method.specs.Types.{blank, millionths}
+use Rattle.method.specs.words.Types.{blank, millionths}
 use Rattle.numbers.specs.declared.Millionths.{Millionths}
 use Rattle.numbers.proofs.Deciding.{kept, broken}
 use Rattle.soundness.proofs.Whole.{Rows}

@@ -8,11 +8,11 @@ use denote.Ref.{now}
 use lib.ListN.{length, getD, set, take}
 use lib.Seq.{length-take-le}
 use Rattle.numbers.proofs.Deciding.{kept, broken}
-use Rattle.method.specs.Types.{blank, seconds}
-use Rattle.method.specs.Opening.{ids}
-use Rattle.method.specs.Search.{passed, earliest, in-time}
-use Rattle.method.specs.Ranges.{HoldsIn}
-use Rattle.method.specs.Sound.{Distinct}
+use Rattle.method.specs.words.Types.{blank, seconds}
+use Rattle.method.specs.computed.Opening.{ids}
+use Rattle.method.specs.computed.Search.{passed, earliest, in-time}
+use Rattle.method.specs.computed.Rooms.{HoldsIn}
+use Rattle.method.specs.computed.Sound.{Distinct}
 use Rattle.method.specs.declared.Found.the-variants.{Nothing}
 use Rattle.soundness.proofs.Whole.{nothing-at}
 use Rattle.corridor.specs.declared.Session.{Session}

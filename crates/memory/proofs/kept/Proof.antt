@@ -6,7 +6,7 @@ use Prim.Native.Nat.{_-_, _≤_}
 use native.Mathlib.Omega.{arith}
 use lib.ListN.{length, take, length-set}
 use Rattle.numbers.proofs.Arrays.{full}
-use Rattle.method.specs.Types.{blank}
+use Rattle.method.specs.words.Types.{blank}
 use Rattle.packed.specs.Packed.{line-in}
 use Rattle.memory.proofs.AllRows.{store-turn, stored}
 use Rattle.memory.proofs.kept.Statement.{statement}

@@ -1,6 +1,6 @@
 -- `pressure::close` meets its contract. Assumes nothing.
 use borrow.Author.Needs.{needs}
-use Rattle.method.specs.Pressure.{close}
+use Rattle.method.specs.words.Pressure.{close}
 use Rattle.pressure.proofs.Pressing.{given-in}
 use Rattle.pressure.proofs.close.Statement.{statement}
 use Rattle.pressure.proofs.close.Tie as tie

@@ -2,7 +2,7 @@
 use borrow.Author.Needs.{needs}
 use borrow.Author.Tests.{lt-ltb, le-ltb}
 use native.Mathlib.Omega.{arith}
-use Rattle.method.specs.Pressure.{judged, judge}
+use Rattle.method.specs.computed.Judge.{judged, judge}
 use Rattle.pressure.proofs.judge.Statement.{statement}
 use Rattle.pressure.proofs.judge.Tie as tie
 

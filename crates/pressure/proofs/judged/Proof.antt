@@ -1,6 +1,6 @@
 -- `pressure::judged` meets its contract. Assumes nothing.
 use borrow.Author.Needs.{needs}
-use Rattle.method.specs.Pressure.{judged}
+use Rattle.method.specs.computed.Judge.{judged}
 use Rattle.pressure.proofs.judged.Statement.{statement}
 use Rattle.pressure.proofs.judged.Tie as tie
 

@@ -1,6 +1,6 @@
 -- `pressure::presses` meets its contract. Assumes nothing.
 use borrow.Author.Needs.{needs}
-use Rattle.method.specs.Pressure.{presses}
+use Rattle.method.specs.words.Pressure.{presses}
 use Rattle.pressure.proofs.Pressing.{price-in}
 use Rattle.pressure.proofs.presses.Statement.{statement}
 use Rattle.pressure.proofs.presses.Tie as tie

@@ -2,7 +2,7 @@
 use borrow.Author.Needs.{needs}
 use borrow.Author.Tests.{le-leb, lt-leb}
 use Rattle.numbers.proofs.Tests.{failed, held}
-use Rattle.method.specs.Opening.{fields-good}
+use Rattle.method.specs.computed.Opening.{fields-good}
 use Rattle.ranges.proofs.fields_good.Statement.{statement}
 use Rattle.ranges.proofs.fields_good.Tie as tie
 

@@ -2,7 +2,7 @@
 use borrow.Author.Needs.{needs}
 use borrow.Author.Tests.{le-leb, lt-leb}
 use Rattle.numbers.proofs.Tests.{failed, held}
-use Rattle.method.specs.Table.{header-good}
+use Rattle.method.specs.computed.Table.{header-good}
 use Rattle.ranges.proofs.header_good.Statement.{statement}
 use Rattle.ranges.proofs.header_good.Tie as tie
 

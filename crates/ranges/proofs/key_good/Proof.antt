@@ -2,7 +2,7 @@
 use borrow.Author.Needs.{needs}
 use borrow.Author.Tests.{lt-ltb, le-ltb}
 use Rattle.numbers.proofs.Tests.{failed, held}
-use Rattle.method.specs.Table.{key-good}
+use Rattle.method.specs.computed.Table.{key-good}
 use Rattle.ranges.proofs.key_good.Statement.{statement}
 use Rattle.ranges.proofs.key_good.Tie as tie
 

@@ -1,7 +1,7 @@
 -- `ranges::laid_out` meets its contract. Assumes nothing.
 use borrow.Author.Needs.{needs}
 use borrow.Author.Tests.{eq-eqb, ne-eqb}
-use Rattle.method.specs.Table.{laid-out}
+use Rattle.method.specs.computed.Table.{laid-out}
 use Rattle.ranges.proofs.laid_out.Statement.{statement}
 use Rattle.ranges.proofs.laid_out.Tie as tie
 

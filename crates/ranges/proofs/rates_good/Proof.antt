@@ -2,7 +2,7 @@
 use borrow.Author.Needs.{needs}
 use borrow.Author.Tests.{le-leb, lt-leb}
 use Rattle.numbers.proofs.Tests.{failed, held}
-use Rattle.method.specs.Opening.{rates-good}
+use Rattle.method.specs.computed.Opening.{rates-good}
 use Rattle.ranges.proofs.rates_good.Statement.{statement}
 use Rattle.ranges.proofs.rates_good.Tie as tie
 

@@ -5,7 +5,7 @@ use lib.IntN.{pos}
 use mir.Syntax.{w64}
 use mir.Facts.{toZ-ofZ}
 use Rattle.numbers.proofs.Machine.{cast-back}
-use Rattle.method.specs.Table.{contract-at}
+use Rattle.method.specs.words.Layout.{contract-at}
 use Rattle.records.proofs.Reading.{contract-is}
 use Rattle.records.proofs.contract.Statement.{statement}
 use Rattle.records.proofs.contract.Tie as tie

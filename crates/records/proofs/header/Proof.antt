@@ -1,6 +1,6 @@
 -- `records::header` meets its contract. Assumes nothing.
 use borrow.Author.Needs.{needs}
-use Rattle.method.specs.Table.{header-of}
+use Rattle.method.specs.words.Layout.{header-of}
 use Rattle.records.proofs.header.Statement.{statement}
 use Rattle.records.proofs.header.Tie as tie
 

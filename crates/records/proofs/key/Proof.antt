@@ -1,6 +1,6 @@
 -- `records::key` meets its contract. Assumes nothing.
 use borrow.Author.Needs.{needs}
-use Rattle.method.specs.Table.{key-at}
+use Rattle.method.specs.words.Layout.{key-at}
 use Rattle.records.proofs.key.Statement.{statement}
 use Rattle.records.proofs.key.Tie as tie
 

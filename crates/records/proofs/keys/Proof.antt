@@ -4,7 +4,7 @@ use Prim.Native.Nat.{ℕ, _-_, _≤_}
 use native.Mathlib.Omega.{arith}
 use denote.Ref.{now}
 use Rattle.numbers.specs.Arrays.{padded}
-use Rattle.method.specs.Table.{keys-at}
+use Rattle.method.specs.words.Layout.{keys-at}
 use Rattle.records.specs.Keys.{no-key}
 use Rattle.records.proofs.Reading.{keys-read}
 use Rattle.records.proofs.keys.Statement.{statement}

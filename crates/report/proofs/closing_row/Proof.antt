@@ -1,7 +1,7 @@
 -- `report::closing_row` meets its contract. Assumes nothing.
 use borrow.Author.Needs.{needs}
-use Rattle.method.specs.Program.{closing-row}
-use Rattle.method.specs.Report.{interest-bounds}
+use Rattle.method.specs.told.Report.{interest-bounds}
+use Rattle.method.specs.told.Rows.{closing-row}
 use Rattle.report.proofs.closing_row.Statement.{statement}
 use Rattle.report.proofs.closing_row.Tie as tie
 

@@ -1,7 +1,7 @@
 -- `report::hold_report` meets its contract. Assumes nothing.
 use borrow.Author.Needs.{needs}
 use native.Mathlib.Omega.{arith}
-use Rattle.method.specs.Report.{hold-report}
+use Rattle.method.specs.told.Report.{hold-report}
 use Rattle.due.proofs.Finding.{since-in}
 use Rattle.report.proofs.hold_report.Statement.{statement}
 use Rattle.report.proofs.hold_report.Tie as tie

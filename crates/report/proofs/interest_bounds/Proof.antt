@@ -1,6 +1,6 @@
 -- `report::interest_bounds` meets its contract. Assumes nothing.
 use borrow.Author.Needs.{needs}
-use Rattle.method.specs.Report.{interest-bounds}
+use Rattle.method.specs.told.Report.{interest-bounds}
 use Rattle.report.proofs.interest_bounds.Statement.{statement}
 use Rattle.report.proofs.interest_bounds.Tie as tie
 

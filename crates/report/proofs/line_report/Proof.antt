@@ -1,6 +1,6 @@
 -- `report::line_report` meets its contract. Assumes nothing.
 use borrow.Author.Needs.{needs}
-use Rattle.method.specs.Report.{line-report}
+use Rattle.method.specs.told.Report.{line-report}
 use Rattle.report.proofs.Rooms.{rooms, room-drawn}
 use Rattle.report.proofs.line_report.Statement.{statement}
 use Rattle.report.proofs.line_report.Tie as tie

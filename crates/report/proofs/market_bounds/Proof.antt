@@ -1,6 +1,6 @@
 -- `report::market_bounds` meets its contract. Assumes nothing.
 use borrow.Author.Needs.{needs}
-use Rattle.method.specs.Report.{market-bounds}
+use Rattle.method.specs.told.Report.{market-bounds}
 use Rattle.report.proofs.market_bounds.Statement.{statement}
 use Rattle.report.proofs.market_bounds.Tie as tie
 

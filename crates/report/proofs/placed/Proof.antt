@@ -4,7 +4,7 @@ use mathlib.Core.Path.{_≡_}
 use mathlib.Core.Bool.{true, false}
 use lib.Signed.{ltZ}
 use Rattle.numbers.proofs.Machine.{tests}
-use Rattle.method.specs.Event.{placed}
+use Rattle.method.specs.told.Questions.{placed}
 use Rattle.report.proofs.placed.Statement.{statement}
 use Rattle.report.proofs.placed.Tie as tie
 

@@ -1,7 +1,7 @@
 -- `rows::event_number` meets its contract. Assumes nothing.
 use borrow.Author.Needs.{needs}
 use mathlib.Core.Path.{refl}
-use Rattle.method.specs.Refusals.{event-number}
+use Rattle.method.specs.told.Refusals.{event-number}
 use Rattle.rows.proofs.event_number.Statement.{statement}
 use Rattle.rows.proofs.event_number.Tie as tie
 

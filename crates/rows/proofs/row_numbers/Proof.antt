@@ -1,6 +1,6 @@
 -- `rows::row_numbers` meets its contract. Assumes nothing.
 use borrow.Author.Needs.{needs}
-use Rattle.method.specs.Program.{row-numbers}
+use Rattle.method.specs.told.Rows.{row-numbers}
 use Rattle.rows.proofs.row_numbers.Statement.{statement}
 use Rattle.rows.proofs.row_numbers.Tie as tie
 

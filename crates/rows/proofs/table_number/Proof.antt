@@ -1,7 +1,7 @@
 -- `rows::table_number` meets its contract. Assumes nothing.
 use borrow.Author.Needs.{needs}
 use mathlib.Core.Path.{refl}
-use Rattle.method.specs.Refusals.{table-number}
+use Rattle.method.specs.told.Refusals.{table-number}
 use Rattle.rows.proofs.table_number.Statement.{statement}
 use Rattle.rows.proofs.table_number.Tie as tie
 

@@ -7,7 +7,7 @@ use lib.ListN.{length, take}
 use denote.Ref.{now}
 use Rattle.numbers.proofs.Arrays.{full}
 use Rattle.method.specs.declared.Row.the-variants as Row
-use Rattle.method.specs.Program.{numbers-of}
+use Rattle.method.specs.told.Rows.{numbers-of}
 use Rattle.rows.specs.Buffer.{written}
 use Rattle.rows.proofs.Buffer.{nothing-written, row-on, long-on}
 use Rattle.rows.proofs.write_shifts.Statement.{statement}

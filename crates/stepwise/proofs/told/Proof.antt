@@ -6,7 +6,7 @@ use lib.ListN.{length}
 use denote.Ref.{now}
 use Rattle.numbers.proofs.Arrays.{full}
 use Rattle.method.specs.declared.Row.the-variants as Row
-use Rattle.method.specs.Program.{rows-of}
+use Rattle.method.specs.told.Rows.{rows-of}
 use Rattle.rows.specs.Buffer.{written}
 use Rattle.rows.proofs.Buffer.{numbers-one}
 use Rattle.stepwise.proofs.Stepping.{told-long}

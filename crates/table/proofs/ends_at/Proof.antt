@@ -1,7 +1,7 @@
 -- `table::ends_at` meets its contract. Assumes nothing.
 use borrow.Author.Needs.{needs}
 use mathlib.Core.Path.{ap, _∙_}
-use Rattle.method.specs.Table.{table-length}
+use Rattle.method.specs.words.Layout.{table-length}
 use Rattle.table.proofs.ends_at.Statement.{statement}
 use Rattle.table.proofs.ends_at.Tie as tie
 

@@ -5,8 +5,8 @@ use mathlib.Core.Bool.{true}
 use borrow.Author.Tests.{le-leb, lt-leb}
 use lib.ListN.{take}
 use Rattle.numbers.proofs.Tests.{failed, held}
-use Rattle.method.specs.Opening.{fields-good, id-good, open-line}
-use Rattle.method.specs.Ranges.{ContractIn}
+use Rattle.method.specs.words.Ranges.{ContractIn}
+use Rattle.method.specs.computed.Opening.{fields-good, id-good, open-line}
 use Rattle.method.proofs.Opening.{contract-in}
 use Rattle.method.proofs.Growth.{rate-most}
 use Rattle.table.proofs.Opening.{exponent-is, line-spanned}

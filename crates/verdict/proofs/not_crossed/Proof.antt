@@ -1,6 +1,6 @@
 -- `verdict::not_crossed` meets its contract. Assumes nothing.
 use borrow.Author.Needs.{needs}
-use Rattle.method.specs.Event.{not-crossed}
+use Rattle.method.specs.computed.Event.{not-crossed}
 use Rattle.verdict.proofs.not_crossed.Statement.{statement}
 use Rattle.verdict.proofs.not_crossed.Tie as tie
 

@@ -1,7 +1,7 @@
 -- `wire::signed_word` meets its contract. Assumes nothing.
 use borrow.Author.Needs.{needs}
 use mathlib.Core.Path.{_∙_, ap}
-use Rattle.method.specs.Wire.{signed}
+use Rattle.method.specs.words.Wire.{signed}
 use Rattle.wire.proofs.Sign.{low, taken-off, high}
 use Rattle.wire.proofs.signed_word.Statement.{statement}
 use Rattle.wire.proofs.signed_word.Tie as tie

@@ -1,6 +1,6 @@
 -- `wire::word` meets its contract: four bytes below 256, the lowest first. Assumes nothing.
 use borrow.Author.Needs.{needs}
-use Rattle.method.specs.Wire.{word}
+use Rattle.method.specs.words.Wire.{word}
 use Rattle.wire.proofs.word.Statement.{statement}
 use Rattle.wire.proofs.word.Tie as tie
 

@@ -5,7 +5,7 @@ use mathlib.Core.Bool.{true, false}
 use lib.IntN.{pos}
 use lib.Signed.{ltZ}
 use Rattle.numbers.proofs.Machine.{tests}
-use Rattle.method.specs.Opening.{floored}
+use Rattle.method.specs.words.Opening.{floored}
 use Rattle.bounds.proofs.limits.floored.Statement.{statement}
 use Rattle.bounds.proofs.limits.floored.Tie as tie
 

@@ -8,8 +8,8 @@ use Prim.Native.Nat.{ℕ, _+_, _*_, _-_, _≤_, _<_}
 use native.Mathlib.Omega.{arith}
 use lib.IntN.{ℤ}
 use lib.ListN.{length, getD, take}
-use Rattle.method.specs.Types.{blank}
-use Rattle.method.specs.Program.{closing-row, row-numbers, numbers-of}
+use Rattle.method.specs.words.Types.{blank}
+use Rattle.method.specs.told.Rows.{closing-row, row-numbers, numbers-of}
 use Rattle.method.specs.declared.Row.{Row}
 use Rattle.rows.specs.Buffer.{written}
 use Rattle.rows.proofs.Buffer.{nothing-written, row-on, long-on}

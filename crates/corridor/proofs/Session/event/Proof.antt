@@ -4,8 +4,8 @@ use denote.Ref.{now}
 use mathlib.Core.Path.{refl, sym, ap, subst, _∙_}
 use native.Mathlib.Omega.{arith}
 use lib.Seq.{length-take-le}
-use Rattle.method.specs.Sound.{Distinct}
-use Rattle.method.specs.Event.{read}
+use Rattle.method.specs.computed.Event.{read}
+use Rattle.method.specs.computed.Sound.{Distinct}
 use Rattle.verdict.specs.declared.Taken.{Taken}
 use Rattle.corridor.specs.Names.{EventAnswer}
 use Rattle.corridor.specs.declared.Session.{Session}

@@ -8,8 +8,8 @@ use Prim.Native.Nat.{ℕ, _≤_, _<_, _+_, _-_}
 use native.Mathlib.Omega.{arith}
 use lib.ListN.{length, take, drop}
 use lib.Seq.{length-take-le}
-use Rattle.method.specs.Sound.{Distinct}
-use Rattle.method.specs.Event.{read}
+use Rattle.method.specs.computed.Event.{read}
+use Rattle.method.specs.computed.Sound.{Distinct}
 use Rattle.verdict.specs.declared.Change.{Change}
 use Rattle.verdict.specs.declared.PlacedQuote.{PlacedQuote}
 use Rattle.verdict.specs.declared.Taken.{Taken}

@@ -1,7 +1,7 @@
 -- `corridor::Session::report` meets its contract. Assumes nothing.
 use borrow.Author.Needs.{needs}
 use mathlib.Core.Path.{sym, ap, _∙_}
-use Rattle.method.specs.Ranges.{Room}
+use Rattle.method.specs.computed.Rooms.{Room}
 use Rattle.corridor.specs.Names.{ReportAnswer}
 use Rattle.corridor.specs.declared.questions.Sought.{Sought}
 use Rattle.corridor.specs.View.{view}

@@ -3,8 +3,8 @@ use borrow.Author.Needs.{needs}
 use mathlib.Core.Path.{_≡_, refl, _∙_}
 use Prim.Native.Nat.{_≤_, _-_}
 use native.Mathlib.Omega.{arith}
-use Rattle.method.specs.Shift.{shifted}
-use Rattle.method.specs.Search.{next-due}
+use Rattle.method.specs.computed.Shift.{shifted}
+use Rattle.method.specs.computed.Search.{next-due}
 use Rattle.corridor.specs.Names.{Seconds, Due, At}
 use Rattle.corridor.specs.View.{view}
 use Rattle.corridor.proofs.Views.{ranged-length}

@@ -4,9 +4,9 @@ use mathlib.Core.Path.{_≡_, refl, subst}
 use Prim.Native.Nat.{ℕ, suc, _≤_, _-_}
 use native.Mathlib.Omega.{arith}
 use lib.ListN.{getD}
-use Rattle.method.specs.Types.{blank}
-use Rattle.method.specs.Ranges.{Room}
-use Rattle.method.specs.Shift.{shift-line}
+use Rattle.method.specs.words.Types.{blank}
+use Rattle.method.specs.computed.Shift.{shift-line}
+use Rattle.method.specs.computed.Rooms.{Room}
 use Rattle.holds.proofs.Rooms.{room-shifts}
 use Rattle.corridor.proofs.Rows.{changed, changed-at, room-at}
 use Rattle.corridor.proofs.Shifting.{with-rows, change-turn, all-shifted}

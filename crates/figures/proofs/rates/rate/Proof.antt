@@ -1,6 +1,6 @@
 -- `figures::rates::rate` meets its contract. Assumes nothing.
 use borrow.Author.Needs.{needs}
-use Rattle.method.specs.Ranges.{KeysIn}
+use Rattle.method.specs.words.Ranges.{KeysIn}
 use Rattle.figures.proofs.rates.rate.Statement.{statement}
 use Rattle.figures.proofs.rates.rate.Tie as tie
 

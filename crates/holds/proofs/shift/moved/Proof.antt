@@ -1,6 +1,6 @@
 -- `holds::shift::moved` meets its contract. Assumes nothing.
 use borrow.Author.Needs.{needs}
-use Rattle.method.specs.Shift.{moved}
+use Rattle.method.specs.computed.Shift.{moved}
 use Rattle.holds.proofs.shift.moved.Statement.{statement}
 use Rattle.holds.proofs.shift.moved.Tie as tie
 

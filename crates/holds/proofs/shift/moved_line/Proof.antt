@@ -1,6 +1,6 @@
 -- `holds::shift::moved_line` meets its contract. Assumes nothing.
 use borrow.Author.Needs.{needs}
-use Rattle.method.specs.Shift.{moved-line}
+use Rattle.method.specs.computed.Shift.{moved-line}
 use Rattle.holds.proofs.Moving.{shiftable-redrawable}
 use Rattle.holds.proofs.shift.moved_line.Statement.{statement}
 use Rattle.holds.proofs.shift.moved_line.Tie as tie

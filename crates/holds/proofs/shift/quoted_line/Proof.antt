@@ -1,6 +1,6 @@
 -- `holds::shift::quoted_line` meets its contract. Assumes nothing.
 use borrow.Author.Needs.{needs}
-use Rattle.method.specs.Event.{quoted-line}
+use Rattle.method.specs.computed.Event.{quoted-line}
 use Rattle.holds.proofs.shift.quoted_line.Statement.{statement}
 use Rattle.holds.proofs.shift.quoted_line.Tie as tie
 

@@ -1,6 +1,6 @@
 -- `holds::shift::redrawn` meets its contract. Assumes nothing.
 use borrow.Author.Needs.{needs}
-use Rattle.method.specs.Shift.{redrawn}
+use Rattle.method.specs.computed.Shift.{redrawn}
 use Rattle.holds.proofs.Moving.{reaches}
 use Rattle.holds.proofs.shift.redrawn.Statement.{statement}
 use Rattle.holds.proofs.shift.redrawn.Tie as tie

@@ -1,5 +1,5 @@
 -- `holds::shift::shift_line` meets its contract. Assumes nothing.
-use Rattle.method.specs.Shift.{shift-line}
+use Rattle.method.specs.computed.Shift.{shift-line}
 use Rattle.holds.proofs.Rooms.{shifts-shiftable, shifts-pressed}
 use Rattle.holds.proofs.shift.shift_line.Statement.{statement}
 use Rattle.holds.proofs.shift.shift_line.Tie as tie

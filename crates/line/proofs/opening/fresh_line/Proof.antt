@@ -1,6 +1,6 @@
 -- `line::opening::fresh_line` meets its contract. Assumes nothing.
 use borrow.Author.Needs.{needs}
-use Rattle.method.specs.Opening.{fresh-line}
+use Rattle.method.specs.words.Opening.{fresh-line}
 use Rattle.line.proofs.opening.fresh_line.Statement.{statement}
 use Rattle.line.proofs.opening.fresh_line.Tie as tie
 

@@ -1,8 +1,8 @@
 -- `line::opening::half_move` meets its contract. Assumes nothing.
 use borrow.Author.Needs.{needs}
 use mathlib.Core.Path.{_∙_, ap}
-use Rattle.method.specs.Opening.{half-move}
-use Rattle.method.specs.Types.{steps}
+use Rattle.method.specs.words.Types.{steps}
+use Rattle.method.specs.words.Opening.{half-move}
 use Rattle.line.proofs.Opened.{moves}
 use Rattle.line.proofs.opening.half_move.Statement.{statement}
 use Rattle.line.proofs.opening.half_move.Tie as tie

@@ -1,8 +1,8 @@
 -- `line::opening::half_width` meets its contract. Assumes nothing.
 use borrow.Author.Needs.{needs}
 use mathlib.Core.Path.{_∙_, ap}
-use Rattle.method.specs.Opening.{half-width}
-use Rattle.method.specs.Types.{steps}
+use Rattle.method.specs.words.Types.{steps}
+use Rattle.method.specs.words.Opening.{half-width}
 use Rattle.line.proofs.Opened.{width-fits, width-is}
 use Rattle.line.proofs.opening.half_width.Statement.{statement}
 use Rattle.line.proofs.opening.half_width.Tie as tie

@@ -4,7 +4,7 @@ use mathlib.Core.Path.{_≡_}
 use mathlib.Core.Bool.{true, false}
 use lib.Signed.{leZ}
 use Rattle.numbers.proofs.Machine.{tests}
-use Rattle.method.specs.Opening.{inside-bounds}
+use Rattle.method.specs.computed.Opening.{inside-bounds}
 use Rattle.line.proofs.opening.inside_bounds.Statement.{statement}
 use Rattle.line.proofs.opening.inside_bounds.Tie as tie
 

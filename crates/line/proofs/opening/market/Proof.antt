@@ -1,6 +1,6 @@
 -- `line::opening::market` meets its contract. Assumes nothing.
 use borrow.Author.Needs.{needs}
-use Rattle.method.specs.Opening.{market-of}
+use Rattle.method.specs.words.Opening.{market-of}
 use Rattle.line.proofs.opening.market.Statement.{statement}
 use Rattle.line.proofs.opening.market.Tie as tie
 

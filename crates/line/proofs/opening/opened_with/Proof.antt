@@ -3,7 +3,7 @@ use borrow.Author.Needs.{needs}
 use lib.IntN.{pos}
 use Rattle.numbers.proofs.Machine.{orders}
 use Rattle.numbers.proofs.Tests.{true-le, false-le}
-use Rattle.method.specs.Opening.{opened-with}
+use Rattle.method.specs.computed.Opening.{opened-with}
 use Rattle.line.proofs.opening.opened_with.Statement.{statement}
 use Rattle.line.proofs.opening.opened_with.Tie as tie
 

@@ -6,7 +6,7 @@ use lib.IntN.{pos}
 use lib.Signed.{ltZ}
 use mir.Facts.{toZ-ofZ}
 use Rattle.numbers.proofs.Ranges.{fits}
-use Rattle.method.specs.Opening.{half-move, terms-of}
+use Rattle.method.specs.words.Opening.{half-move, terms-of}
 use Rattle.method.proofs.Opening.{half-width-in}
 use Rattle.line.specs.Names.{Steps}
 use Rattle.line.proofs.opening.terms.Statement.{statement}

@@ -1,7 +1,7 @@
 -- `packed::reading::signed` meets its contract. Assumes nothing.
 use borrow.Author.Needs.{needs}
 use mathlib.Core.Path.{ap}
-use Rattle.method.specs.Types.{steps}
+use Rattle.method.specs.words.Types.{steps}
 use Rattle.packed.proofs.Numbers.{even-read, odd-fits, odd-read}
 use Rattle.packed.proofs.reading.signed.Statement.{statement}
 use Rattle.packed.proofs.reading.signed.Tie as tie

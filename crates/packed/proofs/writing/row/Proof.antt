@@ -1,6 +1,6 @@
 -- `packed::writing::row` meets its contract. Assumes nothing.
 use borrow.Author.Needs.{needs}
-use Rattle.method.specs.Types.{steps}
+use Rattle.method.specs.words.Types.{steps}
 use Rattle.packed.specs.Packed.{line-in}
 use Rattle.packed.proofs.writing.row.Statement.{statement}
 use Rattle.packed.proofs.writing.row.Tie as tie

@@ -1,7 +1,7 @@
 -- `soundness::exact::exact` meets its contract. Assumes nothing.
 use borrow.Author.Needs.{needs}
 use Rattle.numbers.proofs.Deciding.{kept, broken, decides-same}
-use Rattle.method.specs.Sound.{Exact}
+use Rattle.method.specs.computed.Sound.{Exact}
 use Rattle.soundness.specs.Names.{Up, Down}
 use Rattle.soundness.proofs.Records.{exact-both}
 use Rattle.soundness.proofs.exact.exact.Statement.{statement}

@@ -1,7 +1,7 @@
 -- `soundness::exact::exact_on` meets its contract. Assumes nothing.
 use borrow.Author.Needs.{needs}
 use mathlib.Core.Path.{sym, ap, _∙_}
-use Rattle.method.specs.Sound.{standing}
+use Rattle.method.specs.computed.Sound.{standing}
 use Rattle.soundness.specs.Names.{Hold}
 use Rattle.soundness.proofs.Records.{agree-yes, agree-no}
 use Rattle.soundness.proofs.exact.exact_on.Statement.{statement}

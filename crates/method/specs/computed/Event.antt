@@ -1,0 +1,88 @@
+-- What a byte string says, whether it is refused, and what an accepted one does (METHOD 12, 19, 20), computed.
+use mathlib.Core.Bool.{cond, Bool, true, false, _&&_}
+use mathlib.Core.List.{List, [], _∷_}
+use Prim.Native.Nat.{ℕ}
+use lib.Dec.{ltb, leb, eqb}
+use lib.IntN.{ℤ, pos}
+use lib.ListN.{length}
+use lib.Signed.{leZ}
+use Rattle.numbers.specs.Tests.{in-span, same}
+use Rattle.method.specs.words.Types.{Millionths, Seconds, Price, Absent, Given, Line, Quote, Event, Damaged, Tick, Quoted, EventReason, EventAnswer, steps, seconds, State, demand}
+use Rattle.method.specs.words.Wire.{word, signed, bit}
+use Rattle.method.specs.words.Sessions.{Answer, accepted, refused}
+use Rattle.method.specs.told.Questions.{known}
+use Rattle.method.specs.computed.Judge.{judge}
+use Rattle.method.specs.computed.Shift.{with-lines, after}
+
+-- ---- what a byte string says
+-- "bid, ask (signed, ±2,000,000,000). An absent price is 0."
+abbrev pub price-good : Bool → ℤ → Bool
+price-good true z = in-span 2_000_000_000 z
+price-good false z = same z (pos 0)
+
+abbrev pub price-of : Bool → ℤ → Price
+price-of true z = Given (steps z)
+price-of false z = Absent
+
+-- "A tick has flags 4, and its id, bid and ask are 0."
+unfoldable pub read-tick : Seconds → ℕ → ℤ → ℤ → Event
+read-tick time id bid ask = demand (eqb id 0 && same bid (pos 0) && same ask (pos 0)) Damaged (Tick time)
+
+-- "Otherwise the event is a quote and replaces both standing prices of its contract; flags 0 means an empty book."
+-- "flags (bit 0 bid present, bit 1 ask present, bit 2 tick)"
+unfoldable pub read-quote : Seconds → ℕ → ℕ → ℤ → ℤ → Event
+read-quote time id flags bid ask =
+    demand (ltb flags 4 && price-good (bit 0 flags) bid && price-good (bit 1 flags) ask) Damaged
+    (Quoted (record { time = time; id = id; bid = price-of (bit 0 flags) bid; ask = price-of (bit 1 flags) ask }))
+
+-- "20 bytes, five fields as in the table: time; id; flags ..; bid, ask"
+unfoldable pub read : List ℕ → Event
+read b =
+    let time : Seconds = seconds (word b 0) in
+    let bid : ℤ = signed (word b 12) in
+    let ask : ℤ = signed (word b 16) in
+    demand (eqb (length b) 20) Damaged
+    (cond (eqb (word b 8) 4) (read-tick time (word b 4) bid ask) (read-quote time (word b 4) (word b 8) bid ask))
+
+-- ---- whether it is refused: "Event order: 12, 10, 11, 13, 14; a tick meets neither 13 nor 14."
+unfoldable pub in-session : State → Seconds → EventAnswer → EventAnswer
+in-session s time onward =
+    demand (leb (time .0) (s .end .0)) (EventAnswer.Refused EventReason.AfterEnd)
+    (demand (leb (s .clock .0) (time .0)) (EventAnswer.Refused EventReason.BeforeClock) onward)
+
+-- 14: "bid above ask, both present"
+unfoldable pub not-crossed : Price → Price → Bool
+not-crossed (Given bid) (Given ask) = leZ (bid .0) (ask .0)
+not-crossed (Given bid) Absent = true
+not-crossed Absent ask = true
+
+unfoldable pub verdict : State → Event → EventAnswer
+verdict s Damaged = EventAnswer.Refused EventReason.Malformed
+verdict s (Tick time) = in-session s time EventAnswer.Accepted
+verdict s (Quoted q) =
+    in-session s (q .time)
+    (demand (known (q .id) (s .lines)) (EventAnswer.Refused EventReason.UnknownId)
+    (demand (not-crossed (q .bid) (q .ask)) (EventAnswer.Refused EventReason.Crossed) EventAnswer.Accepted))
+
+-- ---- what an accepted one does: "Then the event is applied and the clock set to t."
+abbrev pub with-book : Line → Price → Price → Line
+with-book l bid ask =
+    record { terms = l .terms; market = l .market; limits = l .limits; book = record { bid = bid; ask = ask }; holds = l .holds }
+
+unfoldable pub quoted-line : Millionths → ℕ → Quote → Line → Line
+quoted-line near left q l = judge near left (q .time) (with-book l (q .bid) (q .ask))
+
+-- the line of the quote's id
+unfoldable pub quoted : Millionths → ℕ → Quote → List Line → List Line
+quoted near left q [] = []
+quoted near left q (l ∷ ls) = cond (eqb (l .terms .id) (q .id)) (quoted-line near left q l ∷ ls) (l ∷ quoted near left q ls)
+
+unfoldable pub applied : Event → State → State
+applied Damaged s = s
+applied (Tick time) s = with-lines s (s .lines) (s .left) time
+applied (Quoted q) s = with-lines s (quoted (s .near) (s .left) q (s .lines)) (s .left) (q .time)
+
+-- "10 to 14 change nothing, and serve nothing."
+unfoldable pub next : State → Event → Answer → State
+next s e (accepted cs) = applied e (after cs s)
+next s e (refused why) = s

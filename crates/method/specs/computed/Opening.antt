@@ -1,0 +1,53 @@
+-- One contract opened from its ten fields, or refused with 5, 6, 7, 8 or 9, test by test (METHOD 11.6).
+use mathlib.Core.Bool.{Bool, _&&_, not, _||_}
+use mathlib.Core.List.{List, map}
+use Prim.Native.Nat.{ℕ}
+use lib.Dec.{ltb, leb}
+use lib.IntN.{pos}
+use lib.Signed.{leZ}
+use Rattle.numbers.specs.Tests.{in-span, in-range, between}
+use Rattle.method.specs.words.Types.{Millionths, Key, Contract, Up, Down, Terms, Market, Limits, Line, TableReason, LineAnswer, demand}
+use Rattle.method.specs.words.Ranges.{permits-negative}
+use Rattle.method.specs.words.Growth.{most-exponent}
+use Rattle.method.specs.words.Bounds.{bound}
+use Rattle.method.specs.words.Opening.{market-of, terms-of, corridor, fresh-line, exponent-of}
+use Rattle.method.specs.told.Questions.{known}
+
+-- ---- ranges (refusal 5)
+-- "rates of levels 1, 2, 3, each 1..1,000,000 and not falling"
+unfoldable pub rates-good : Contract → Bool
+rates-good c =
+    in-range 1 1_000_000 (c .rate1 .0) && in-range 1 1_000_000 (c .rate2 .0) && leb (c .rate1 .0) (c .rate2 .0)
+    && in-range 1 1_000_000 (c .rate3 .0) && leb (c .rate2 .0) (c .rate3 .0)
+
+-- "settlement price P (signed, ±100,000,000); spot (signed, same range); least price 1..100,000,000; rates ..; width share 0..1,000,000; days
+-- left 0..3,650; id ..; flags. .. the rest must be zero. Without bit 0, P is at least 1."
+unfoldable pub fields-good : Contract → Bool
+fields-good c =
+    in-span 100_000_000 (c .price .0) && (permits-negative (c .flags) || leZ (pos 1) (c .price .0)) && in-span 100_000_000 (c .spot .0)
+    && between (pos 1) (pos 100_000_000) (c .least .0) && rates-good c && leb (c .width .0) 1_000_000 && leb (c .days) 3_650
+    && ltb (c .flags) 4
+
+abbrev pub ids : List Line → List ℕ
+ids ls = map (λ (l : Line). l .terms .id) ls
+
+unfoldable pub id-good : List Line → ℕ → Bool
+id-good earlier id = ltb 0 id && not (known id earlier)
+
+-- "neither beyond its interest bound (equal is allowed)"
+unfoldable pub inside-bounds : Terms → Market → Limits → Bool
+inside-bounds t m k = leZ (k .upper .0) (bound Up t m) && leZ (bound Down t m) (k .lower .0)
+
+unfoldable pub opened-with : Millionths → Terms → Market → LineAnswer
+opened-with width t m =
+    demand (leZ (pos 1) (t .halfmove .0)) (LineAnswer.Refused TableReason.HalfMove)
+    (demand (inside-bounds t m (corridor width t m)) (LineAnswer.Refused TableReason.Corridor)
+    (LineAnswer.Opened (fresh-line t m (corridor width t m))))
+
+unfoldable pub open-line : Millionths → List Key → List Line → Contract → LineAnswer
+open-line shift keys earlier c =
+    let y : ℕ = exponent-of keys c in
+    demand (fields-good c) (LineAnswer.Refused TableReason.Field)
+    (demand (id-good earlier (c .id)) (LineAnswer.Refused TableReason.Id)
+    (demand (leb y most-exponent) (LineAnswer.Refused TableReason.Exponent)
+    (opened-with (c .width) (terms-of shift y c) (market-of c))))

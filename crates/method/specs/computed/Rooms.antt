@@ -1,0 +1,121 @@
+-- The ranges of a session's numbers: what an accepted table tells of the lines that it opens, and what every shift and every event keep. The code
+-- rests on them, no statement of a rule does.
+use mathlib.Core.Bool.{true, false}
+use mathlib.Core.Path.{_≡_}
+use Prim.Native.Nat.{ℕ, _≤_, _<_, _-_, _*_}
+use lib.IntN.{pos}
+use lib.ListN.{length}
+use lib.Signed.{_≤ℤ_}
+use Rattle.numbers.specs.Ranges.{Within, Between, Span}
+use Rattle.method.specs.words.Types.{Up, Down, Terms, Market, Limits, Price, Absent, Given, Book, Hold, Idle, Since, Holds, Line, Event, Damaged, Tick, Quoted, seconds, State}
+use Rattle.method.specs.words.Ranges.{permits-negative, Every}
+use Rattle.method.specs.words.Bounds.{bound}
+
+-- ---- a line; the factors are those up to the cap
+pub record FactorsIn (t : Terms) : Type 0 where
+  pub up : Between 1_000_000_000 1_650_000_000 (t .factors .up .0)
+  pub down : Between 606_000_000 1_000_000_000 (t .factors .down .0)
+
+pub record TermsIn (t : Terms) : Type 0 where
+  pub id : 0 < t .id
+  pub flags : t .flags < 4
+  pub halfmove : Span (pos 1) (pos 50_000_000) (t .halfmove .0)
+  pub factors : FactorsIn t
+
+pub record MarketIn (m : Market) : Type 0 where
+  pub centre : Within 100_000_000 (m .centre .0)
+  pub half1 : Span (pos 1) (pos 100_000_000) (m .half1 .0)
+  pub half2 : Span (pos 1) (pos 100_000_000) (m .half2 .0)
+  pub half3 : Span (pos 1) (pos 100_000_000) (m .half3 .0)
+
+-- The floor of one step: nothing stands below it where negative prices are not permitted, and what is frozen stands there.
+pub record Floor (k : Limits) (flags : ℕ) : Type 0 where
+  pub least : permits-negative flags ≡ false → pos 1 ≤ℤ (k .lower .0)
+  pub frozen-at : k .frozen ≡ true → k .lower .0 ≡ pos 1
+  pub frozen-by : k .frozen ≡ true → permits-negative flags ≡ false
+
+-- Both limits lie between the interest bounds, and the centre between the limits.
+pub record LimitsIn (t : Terms) (m : Market) (k : Limits) : Type 0 where
+  pub upper : (k .upper .0) ≤ℤ (bound Up t m)
+  pub lower : (bound Down t m) ≤ℤ (k .lower .0)
+  pub over-centre : (m .centre .0) ≤ℤ (k .upper .0)
+  pub under-centre : (k .lower .0) ≤ℤ (m .centre .0)
+  pub floor : Floor k (t .flags)
+
+abbrev pub empty-book : Book
+empty-book = record { bid = Absent; ask = Absent }
+
+abbrev pub no-holds : Holds
+no-holds = record { up = Idle; down = Idle }
+
+-- a line as it opens
+pub record LineIn (l : Line) : Type 0 where
+  pub terms : TermsIn (l .terms)
+  pub market : MarketIn (l .market)
+  pub limits : LimitsIn (l .terms) (l .market) (l .limits)
+  pub book : l .book ≡ empty-book
+  pub holds : l .holds ≡ no-holds
+
+pub record OpeningIn (s : State) : Type 0 where
+  pub count : Between 1 32 (length (s .lines))
+  pub lines : Every LineIn (s .lines)
+  pub clock : s .clock ≡ seconds 0
+  pub end : Between 1 172_800 (s .end .0)
+  pub hold : Between 1 3_600 (s .hold .0)
+  pub left : s .left ≤ 16
+  pub near : Between 1 500_000 (s .near .0)
+
+-- ---- a line while `left` shifts are left
+-- How far a centre and a half-width reach: 100,000,000 at opening, and at most 50,000,000 further by each of at most 16 shifts.
+abbrev pub reach : ℕ → ℕ
+reach left = 900_000_000 - 50_000_000 * left
+
+pub record MarketRoom (left : ℕ) (m : Market) : Type 0 where
+  pub centre : Within (reach left) (m .centre .0)
+  pub half1 : Span (pos 1) (pos (reach left)) (m .half1 .0)
+  pub half2 : Span (pos 1) (pos (reach left)) (m .half2 .0)
+  pub half3 : Span (pos 1) (pos (reach left)) (m .half3 .0)
+
+pub record LimitsRoom (t : Terms) (m : Market) (k : Limits) : Type 0 where
+  pub upper : (k .upper .0) ≤ℤ (bound Up t m)
+  pub lower : (bound Down t m) ≤ℤ (k .lower .0)
+  pub ordered : (k .lower .0) ≤ℤ (k .upper .0)
+  pub floor : Floor k (t .flags)
+
+unfoldable pub PriceIn : Price → Type 0
+PriceIn Absent = Unit {0}
+PriceIn (Given p) = Within 2_000_000_000 (p .0)
+
+pub record BookIn (b : Book) : Type 0 where
+  pub bid : PriceIn (b .bid)
+  pub ask : PriceIn (b .ask)
+
+-- a hold starts no later than the longest session ends
+unfoldable pub HoldIn : Hold → Type 0
+HoldIn Idle = Unit {0}
+HoldIn (Since start) = start .0 ≤ 172_800
+
+pub record HoldsIn (h : Holds) : Type 0 where
+  pub up : HoldIn (h .up)
+  pub down : HoldIn (h .down)
+
+pub record Room (left : ℕ) (l : Line) : Type 0 where
+  pub terms : TermsIn (l .terms)
+  pub market : MarketRoom left (l .market)
+  pub limits : LimitsRoom (l .terms) (l .market) (l .limits)
+  pub book : BookIn (l .book)
+  pub holds : HoldsIn (l .holds)
+
+-- ---- a state, and an event
+pub record Sane (s : State) : Type 0 where
+  pub hold : Between 1 3_600 (s .hold .0)
+  pub end : s .end .0 ≤ 172_800
+  pub clock : s .clock .0 ≤ s .end .0
+  pub left : s .left ≤ 16
+  pub near : Between 1 500_000 (s .near .0)
+  pub rooms : Every (Room (s .left)) (s .lines)
+
+unfoldable pub EventIn : Event → Type 0
+EventIn Damaged = Unit {0}
+EventIn (Tick t) = Unit {0}
+EventIn (Quoted q) = PriceIn (q .bid) × PriceIn (q .ask)

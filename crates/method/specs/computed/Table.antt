@@ -1,0 +1,56 @@
+-- A table opened, or refused with its line, test by test in the order of METHOD 11. Every list of bytes has an answer.
+use mathlib.Core.Bool.{cond, Bool, _&&_}
+use mathlib.Core.List.{List, [], _∷_, _++_}
+use mathlib.Core.Option.{Option, none, some}
+use Prim.Native.Nat.{ℕ, _+_, suc}
+use lib.Dec.{ltb, leb, eqb}
+use lib.ListN.{length}
+use Rattle.numbers.specs.Tests.{in-range}
+use Rattle.method.specs.words.Types.{Header, Key, Contract, Line, TableReason, LineAnswer, demand}
+use Rattle.method.specs.words.Layout.{header-of, contracts-start, table-length, keys-at, contracts-at}
+use Rattle.method.specs.words.Tables.{Opening, opened, refused, opening-state}
+use Rattle.method.specs.computed.Opening.{open-line}
+
+-- ---- the header (refusal 3: "a count, time or share in the header out of range"; the rest of refusal 1)
+unfoldable pub header-good : Header → Bool
+header-good h =
+    in-range 1 32 (h .contracts) && in-range 1 16 (h .keys) && in-range 1 172_800 (h .end .0) && in-range 1 3_600 (h .hold .0)
+    && leb (h .most) 16 && in-range 1 500_000 (h .near .0) && in-range 1 1_000_000 (h .shift .0)
+
+unfoldable pub laid-out : Header → ℕ → Bool
+laid-out h size = eqb (h .keysat) 40 && eqb (h .contractsat) (contracts-start h) && eqb size (table-length h)
+
+-- ---- the keys (refusal 4): "days 1..3,650, strictly rising; rate 0..1,000,000 a year"
+unfoldable pub key-good : ℕ → Key → Bool
+key-good before k = in-range 1 3_650 (k .days) && ltb before (k .days) && leb (k .rate .0) 1_000_000
+
+-- the line of the first bad key, if there is one; `before` has the days of the key before it
+unfoldable pub bad-key : ℕ → ℕ → List Key → Option ℕ
+bad-key line before [] = none
+bad-key line before (k ∷ keys) = cond (key-good before k) (bad-key (suc line) (k .days) keys) (some line)
+
+abbrev pub if-opened : LineAnswer → ℕ → (Line → Opening) → Opening
+if-opened (LineAnswer.Opened l) line onward = onward l
+if-opened (LineAnswer.Refused why) line onward = refused why line
+
+-- the contracts from a line on, after the lines that are opened already
+unfoldable pub open-lines : Header → List Key → ℕ → List Line → List Contract → Opening
+open-lines h keys line earlier [] = opened (opening-state h earlier)
+open-lines h keys line earlier (c ∷ cs) =
+    if-opened (open-line (h .shift) keys earlier c) line (λ (l : Line). open-lines h keys (suc line) (earlier ++ (l ∷ [])) cs)
+
+abbrev pub if-keys-good : Option ℕ → Opening → Opening
+if-keys-good none onward = onward
+if-keys-good (some line) onward = refused TableReason.Key line
+
+unfoldable pub open-records : Header → List Key → List Contract → Opening
+open-records h keys cs = if-keys-good (bad-key 1 0 keys) (open-lines h keys 1 [] cs)
+
+unfoldable pub opening : List ℕ → Opening
+opening b =
+    let h : Header = header-of b in
+    demand (leb 40 (length b)) (refused TableReason.Length 0)
+    (demand (eqb (h .edition) 1) (refused TableReason.Edition 0)
+    (demand (header-good h) (refused TableReason.Header 0)
+    (demand (laid-out h (length b)) (refused TableReason.Length 0)
+    (open-records h (keys-at b 40 (h .keys)) (contracts-at b (contracts-start h) (h .contracts))))))

@@ -1,0 +1,28 @@
+-- The questions on one contract (METHOD 21): its limits, and where an order price lies. They know only refusal 13, serve nothing and know no time.
+use mathlib.Core.Bool.{cond, Bool, false, _||_}
+use mathlib.Core.List.{List, [], _∷_}
+use Prim.Native.Nat.{ℕ}
+use lib.Dec.{eqb}
+use lib.Signed.{ltZ}
+use Rattle.method.specs.words.Types.{Steps, Limits, Line, EventReason, LimitsAnswer, PlaceAnswer, Below, Inside, Above, State, blank, demand}
+
+-- ---- ids (refusal 6: "id 0 or used on an earlier line")
+unfoldable pub known : ℕ → List Line → Bool
+known id [] = false
+known id (l ∷ ls) = eqb (l .terms .id) id || known id ls
+
+-- ---- questions: they "know only 13", serve nothing and know no time
+unfoldable pub line-of : ℕ → List Line → Line
+line-of id [] = blank
+line-of id (l ∷ ls) = cond (eqb (l .terms .id) id) l (line-of id ls)
+
+unfoldable pub limits : ℕ → State → LimitsAnswer
+limits id s =
+    demand (known id (s .lines)) (LimitsAnswer.Refused EventReason.UnknownId) (LimitsAnswer.Standing (line-of id (s .lines) .limits))
+
+-- "below, inside (both limits count as inside) or above the corridor"
+unfoldable pub placed : Limits → Steps → PlaceAnswer
+placed k p = cond (ltZ (p .0) (k .lower .0)) Below (cond (ltZ (k .upper .0) (p .0)) Above Inside)
+
+unfoldable pub place : ℕ → Steps → State → PlaceAnswer
+place id p s = demand (known id (s .lines)) (PlaceAnswer.Refused EventReason.UnknownId) (placed (line-of id (s .lines) .limits) p)

@@ -1,0 +1,47 @@
+-- What is told of a session, as rows (METHOD 22), and each row in numbers.
+use mathlib.Core.List.{List, [], _∷_, _++_, map}
+use Prim.Native.Nat.{ℕ, _+_}
+use lib.IntN.{ℤ, pos}
+use Rattle.method.specs.words.Types.{Side, Up, Down, Line, Row, steps}
+use Rattle.method.specs.words.Bounds.{bound}
+use Rattle.method.specs.words.Sessions.{Answer, accepted, refused as turned-away}
+use Rattle.method.specs.told.Refusals.{table-number, event-number}
+
+-- ---- the rows
+-- "prints one line a shift (second, U or D, id) .. A refused event prints "R" and its number"
+unfoldable pub rows-of : Answer → List Row
+rows-of (accepted cs) = map Row.Shift cs
+rows-of (turned-away why) = Row.RefusedEvent why ∷ []
+
+unfoldable pub rows-of-all : List Answer → List Row
+rows-of-all [] = []
+rows-of-all (a ∷ rs) = rows-of a ++ rows-of-all rs
+
+-- "at the end one line a contract: id, lower limit, upper limit, lower and upper interest bound. Contracts come in table order"
+unfoldable pub closing-row : Line → Row
+closing-row l =
+    Row.Closed
+    (record {
+      id = l .terms .id;
+      lower = l .limits .lower;
+      upper = l .limits .upper;
+      lowerbound = steps (bound Down (l .terms) (l .market));
+      upperbound = steps (bound Up (l .terms) (l .market));
+    })
+
+-- ---- a row in six numbers: its kind, and its values in the printed order, with 0 in the places that it leaves free
+abbrev pub side-number : Side → ℕ
+side-number Up = 0
+side-number Down = 1
+
+unfoldable pub row-numbers : Row → List ℤ
+row-numbers (Row.Shift c) = pos 1 ∷ pos (c .second .0) ∷ pos (side-number (c .side)) ∷ pos (c .id) ∷ pos 0 ∷ pos 0 ∷ []
+row-numbers (Row.RefusedEvent why) = pos 2 ∷ pos (event-number why) ∷ pos 0 ∷ pos 0 ∷ pos 0 ∷ pos 0 ∷ []
+row-numbers (Row.RefusedTable why line) = pos 3 ∷ pos (table-number why) ∷ pos line ∷ pos 0 ∷ pos 0 ∷ pos 0 ∷ []
+row-numbers (Row.Closed c) =
+    pos 4 ∷ pos (c .id) ∷ c .lower .0 ∷ c .upper .0 ∷ c .lowerbound .0 ∷ c .upperbound .0 ∷ []
+
+-- rows in numbers, one after another
+abbrev pub numbers-of : List Row → List ℤ
+numbers-of [] = []
+numbers-of (row ∷ rows) = row-numbers row ++ numbers-of rows

@@ -1,0 +1,72 @@
+-- The line that a contract opens: its market, its terms, its corridor (METHOD 7, 9, 10).
+use mathlib.Core.Bool.{cond, Bool, true, false}
+use mathlib.Core.List.{List}
+use Prim.Native.Nat.{ℕ}
+use lib.IntN.{ℤ, pos, _+ℤ_, _-ℤ_, _*ℤ_, natAbs}
+use lib.Signed.{ltZ}
+use Rattle.numbers.specs.Rounding.{floor, ceiling}
+use Rattle.method.specs.words.Types.{Steps, Millionths, Key, Contract, Up, Down, Terms, Market, Limits, Absent, Idle, Line, steps}
+use Rattle.method.specs.words.Ranges.{permits-negative}
+use Rattle.method.specs.words.Growth.{rate-at, exponent, factors-of}
+use Rattle.method.specs.words.Bounds.{bound}
+
+-- ---- the numbers
+-- "Normal price (after formula 30): the larger of |spot| and least price."
+unfoldable pub normal-price : Contract → ℤ
+normal-price c = let size : ℤ = pos (natAbs (c .spot .0)) in cond (ltZ size (c .least .0)) (c .least .0) size
+
+-- "Half-width of each level: ceiling(normal price x rate / 1,000,000)."
+unfoldable pub half-width : Contract → Millionths → Steps
+half-width c rate = steps (ceiling (normal-price c *ℤ pos (rate .0)) 1_000_000)
+
+-- "Centre = P."
+unfoldable pub market-of : Contract → Market
+market-of c =
+    record { centre = c .price; half1 = half-width c (c .rate1); half2 = half-width c (c .rate2); half3 = half-width c (c .rate3) }
+
+-- "Half-move = floor(shift share x level 1 half-width / 2,000,000)"
+unfoldable pub half-move : Millionths → Steps → Steps
+half-move shift half1 = steps (floor (pos (shift .0) *ℤ half1 .0) 2_000_000)
+
+-- what stays for the session, with exponent y
+unfoldable pub terms-of : Millionths → ℕ → Contract → Terms
+terms-of shift y c =
+    record {
+      id = c .id;
+      flags = c .flags;
+      below = ltZ (c .price .0) (pos 0);
+      halfmove = half-move shift (half-width c (c .rate1));
+      factors = factors-of y;
+    }
+
+-- "Corridor (35, 36): half = floor(width share x (upper interest - lower interest) / 2,000,000); limits P + half and P - half"
+unfoldable pub corridor-half : Millionths → Terms → Market → ℤ
+corridor-half width t m = floor (pos (width .0) *ℤ (bound Up t m -ℤ bound Down t m)) 2_000_000
+
+unfoldable pub corridor : Millionths → Terms → Market → Limits
+corridor width t m =
+    record {
+      upper = steps (m .centre .0 +ℤ corridor-half width t m);
+      lower = steps (m .centre .0 -ℤ corridor-half width t m);
+      frozen = false;
+    }
+
+-- "Then, without flag bit 0, a lower limit below 1 becomes 1 and is frozen (71)."
+unfoldable pub floored : Bool → Limits → Limits
+floored true k = k
+floored false k = cond (ltZ (k .lower .0) (pos 1)) (record { upper = k .upper; lower = steps (pos 1); frozen = true }) k
+
+-- "Each contract starts with an empty book"; there is no pressure yet, and so no hold
+unfoldable pub fresh-line : Terms → Market → Limits → Line
+fresh-line t m k =
+    record {
+      terms = t;
+      market = m;
+      limits = floored (permits-negative (t .flags)) k;
+      book = record { bid = Absent; ask = Absent };
+      holds = record { up = Idle; down = Idle };
+    }
+
+-- ---- a contract, after the lines before it: "each contract line in turn with 5 to 9"
+abbrev pub exponent-of : List Key → Contract → ℕ
+exponent-of keys c = exponent (rate-at keys (c .days)) (c .days)

@@ -1,0 +1,30 @@
+-- When a line presses (METHOD 13).
+use mathlib.Core.Bool.{Bool, false, _&&_, not}
+use lib.IntN.{ℤ, pos, _-ℤ_, _*ℤ_}
+use lib.Signed.{ltZ}
+use Rattle.method.specs.words.Types.{Millionths, Side, Up, Down, Limits, Price, Absent, Given, Book, Hold, Holds, Line}
+use Rattle.method.specs.words.Ranges.{under-watch}
+
+-- a distance x 1,000,000 < near share x (upper - lower)
+abbrev pub near-by : Millionths → Limits → ℤ → Bool
+near-by near k distance = ltZ (distance *ℤ pos 1_000_000) (pos (near .0) *ℤ (k .upper .0 -ℤ k .lower .0))
+
+-- "up when it has a bid and (upper limit - bid) ..; down when it has an ask and (ask - lower) .., unless its lower limit is frozen.
+-- A bid beyond the limit presses."
+unfoldable pub close : Side → Millionths → Limits → Price → Bool
+close side near k Absent = false
+close Up near k (Given bid) = near-by near k (k .upper .0 -ℤ bid .0)
+close Down near k (Given ask) = not (k .frozen) && near-by near k (ask .0 -ℤ k .lower .0)
+
+-- the price that may press on a side
+abbrev pub price : Side → Book → Price
+price Up b = b .bid
+price Down b = b .ask
+
+-- "A watched contract presses .."
+unfoldable pub presses : Side → Millionths → Line → Bool
+presses side near l = under-watch (l .terms .flags) && close side near (l .limits) (price side (l .book))
+
+abbrev pub hold-of : Side → Holds → Hold
+hold-of Up h = h .up
+hold-of Down h = h .down

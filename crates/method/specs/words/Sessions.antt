@@ -1,0 +1,89 @@
+-- A session in words, step by step and with nothing computed in them: what a shift and an event make of the whole state, and which answers a list
+-- of byte strings has, with the state that it leaves (METHOD 15, 18, 19).
+use mathlib.Core.List.{List, [], _∷_, _++_}
+use mathlib.Core.Logic.{_↔_}
+use mathlib.Core.Path.{_≡_}
+use Prim.Native.Nat.{ℕ, _+_}
+use Rattle.method.specs.words.Types.{Millionths, Seconds, Side, Line, ShiftLine, EventReason, EventAnswer, seconds, State}
+use Rattle.method.specs.words.Wire.{word}
+use Rattle.method.specs.words.Events.{EventAnswered}
+use Rattle.method.specs.words.Pressure.{presses, hold-of}
+use Rattle.method.specs.words.Holds.{First, Done, Life}
+use Rattle.method.specs.words.Books.{BookLife}
+use Rattle.method.specs.words.Shifts.{Each, LineShifted}
+
+-- ---- one event, from line l to line n: the book of the line that it quotes is replaced, and so its pressure may start or end
+pub record LineTold (near : Millionths) (left : ℕ) (b : List ℕ) (l n : Line) : Type 0 where
+  pub terms : n .terms ≡ l .terms
+  pub market : n .market ≡ l .market
+  pub limits : n .limits ≡ l .limits
+  pub book : BookLife b l n
+  pub holds : (side : Side) → Life left (seconds (word b 0)) (presses side near n) (hold-of side (l .holds)) (hold-of side (n .holds))
+
+-- ---- the whole state, from s to n
+-- what the table fixed for the session
+pub record SameTable (s n : State) : Type 0 where
+  pub end : n .end ≡ s .end
+  pub hold : n .hold ≡ s .hold
+  pub near : n .near ≡ s .near
+
+-- "A shift acts on all lines of the table", each in its place; one of the shifts that were left is made. The clock waits for the event.
+pub record ShiftedTo (s : State) (c : ShiftLine) (n : State) : Type 0 where
+  pub lines : Each (LineShifted (s .near) (n .left) c) (s .lines) (n .lines)
+  pub left : n .left + 1 ≡ s .left
+  pub clock : n .clock ≡ s .clock
+  pub table : SameTable s n
+
+-- "Then the event is applied and the clock set to t."
+pub record AppliedTo (s : State) (b : List ℕ) (n : State) : Type 0 where
+  pub lines : Each (LineTold (s .near) (s .left) b) (s .lines) (n .lines)
+  pub left : n .left ≡ s .left
+  pub clock : n .clock ≡ seconds (word b 0)
+  pub table : SameTable s n
+
+-- "first every hold due at or before t is served": one shift after another, each of the hold that goes first in the state before it. cs are
+-- their shift lines, n is the state after them.
+pub data Serves (t : Seconds) : State → List ShiftLine → State → Type 0 where
+  nothing : {s : State} → Serves t s [] s
+  first : {s m n : State} {c : ShiftLine} {cs : List ShiftLine} → First t s c → ShiftedTo s c m → Serves t m cs n → Serves t s (c ∷ cs) n
+
+-- The event b is accepted in state s, is answered with the shift lines cs, and leaves state n.
+pub record Follows (s : State) (b : List ℕ) (cs : List ShiftLine) (n : State) : Type 0 where
+  pub taken : EventAnswered s b EventAnswer.Accepted
+  pub between : State
+  pub served : Serves (seconds (word b 0)) s cs between
+  pub all-served : Done (seconds (word b 0)) between
+  pub applied : AppliedTo between b n
+
+-- ---- an answer, and the state that it leaves
+-- "An accepted event answers with 0 to 16 shift lines"
+pub data Answer : Type 0 where
+  accepted : List ShiftLine → Answer
+  refused : EventReason → Answer
+
+-- ---- a session: from state s the byte strings bs are answered with rs, and leave state n. "10 to 14 change nothing, and serve nothing."
+pub data AnswersInWords : State → List (List ℕ) → List Answer → State → Type 0 where
+  no-more : {s : State} → AnswersInWords s [] [] s
+  taken :
+      {s m n : State} {b : List ℕ} {bs : List (List ℕ)} {cs : List ShiftLine} {rs : List Answer} → Follows s b cs m → AnswersInWords m bs rs n
+      → AnswersInWords s (b ∷ bs) (accepted cs ∷ rs) n
+  turned-away :
+      {s n : State} {b : List ℕ} {bs : List (List ℕ)} {why : EventReason} {rs : List Answer} → EventAnswered s b (EventAnswer.Refused why)
+      → AnswersInWords s bs rs n → AnswersInWords s (b ∷ bs) (refused why ∷ rs) n
+
+abbrev pub lines-of : Answer → List ShiftLine
+lines-of (accepted cs) = cs
+lines-of (refused why) = []
+
+unfoldable pub joined : List Answer → List ShiftLine
+joined [] = []
+joined (a ∷ rs) = lines-of a ++ joined rs
+
+-- ---- a refused event
+-- The event b, refused for `why` in the state m that the byte strings `past` leave, can be struck out of the list: it alone is answered with its
+-- refusal, hence with no shift line, and leaves the whole of m, its clock included; and whatever comes later, the other answers and the state
+-- are those without it.
+pub record Struck (o : State) (past : List (List ℕ)) (told : List Answer) (m : State) (b : List ℕ) (why : EventReason) : Type 0 where
+  pub answer : (rs : List Answer) (n : State) → AnswersInWords m (b ∷ []) rs n ↔ ((rs ≡ refused why ∷ []) × (n ≡ m))
+  pub later : (rest : List (List ℕ)) (more : List Answer) (n : State)
+      → AnswersInWords o (past ++ b ∷ rest) (told ++ refused why ∷ more) n ↔ AnswersInWords o (past ++ rest) (told ++ more) n

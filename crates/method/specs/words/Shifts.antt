@@ -1,0 +1,85 @@
+-- What one shift makes of a line (METHOD 16).
+use mathlib.Core.Bool.{true, false}
+use mathlib.Core.List.{List, [], _∷_}
+use mathlib.Core.Path.{_≡_}
+use Prim.Native.Nat.{ℕ, _+_}
+use lib.IntN.{ℤ, pos, _+ℤ_, _-ℤ_, _*ℤ_}
+use lib.Signed.{_≤ℤ_, _<ℤ_}
+use Rattle.method.specs.words.Types.{Steps, Millionths, Side, Up, Down, Line, ShiftLine}
+use Rattle.method.specs.words.Ranges.{permits-negative}
+use Rattle.method.specs.words.Bounds.{bound}
+use Rattle.method.specs.words.Pressure.{presses, hold-of}
+use Rattle.method.specs.words.Holds.{Life, remaining}
+
+-- ---- a relation between two lists of lines, line by line
+unfoldable pub Each : (Line → Line → Type 0) → List Line → List Line → Type 0
+Each R [] [] = Unit {0}
+Each R [] (l ∷ ls) = ⊥
+Each R (o ∷ os) [] = ⊥
+Each R (o ∷ os) (l ∷ ls) = R o l × Each R os ls
+
+-- how many shift lines of a list are of a side
+abbrev pub alike : Side → Side → ℕ
+alike Up Up = 1
+alike Up Down = 0
+alike Down Up = 0
+alike Down Down = 1
+
+unfoldable pub count : Side → List ShiftLine → ℕ
+count side [] = 0
+count side (c ∷ cs) = alike side (c .side) + count side cs
+
+-- ---- one line: o is a line as it was opened, l the same line after u upward and d downward shifts
+abbrev pub Centre : ℕ → ℕ → Line → Line → Type 0
+Centre u d o l = l .market .centre .0 ≡ o .market .centre .0 +ℤ o .terms .halfmove .0 *ℤ pos u -ℤ o .terms .halfmove .0 *ℤ pos d
+
+abbrev pub grown : ℕ → Line → Steps → ℤ
+grown n o half = half .0 +ℤ o .terms .halfmove .0 *ℤ pos n
+
+pub record HalfWidths (n : ℕ) (o l : Line) : Type 0 where
+  pub half1 : l .market .half1 .0 ≡ grown n o (o .market .half1)
+  pub half2 : l .market .half2 .0 ≡ grown n o (o .market .half2)
+  pub half3 : l .market .half3 .0 ≡ grown n o (o .market .half3)
+
+-- ---- one shift, from line l to line n
+-- "interest bounds are worked out again": how far the upper one rose, and the lower one fell
+abbrev pub rise : Line → Line → ℤ
+rise l n = bound Up (n .terms) (n .market) -ℤ bound Up (l .terms) (l .market)
+
+abbrev pub fall : Line → Line → ℤ
+fall l n = bound Down (l .terms) (l .market) -ℤ bound Down (n .terms) (n .market)
+
+-- Up: ".. and the upper limit rises by the growth of the upper interest bound"
+pub record LimitsUp (l n : Line) : Type 0 where
+  pub upper : n .limits .upper .0 ≡ l .limits .upper .0 +ℤ rise l n
+  pub lower : n .limits .lower ≡ l .limits .lower
+  pub frozen : n .limits .frozen ≡ l .limits .frozen
+
+-- Down: ".. and the lower limit falls by the fall of the lower interest bound; without flag bit 0 a result below 1 becomes 1 and is frozen"
+pub data LowerBecomes (l n : Line) (result : ℤ) : Type 0 where
+  the-result :
+      (permits-negative (l .terms .flags) ≡ false → pos 1 ≤ℤ result) → n .limits .lower .0 ≡ result → n .limits .frozen ≡ l .limits .frozen
+      → LowerBecomes l n result
+  one-step :
+      permits-negative (l .terms .flags) ≡ false → result <ℤ pos 1 → n .limits .lower .0 ≡ pos 1 → n .limits .frozen ≡ true
+      → LowerBecomes l n result
+
+pub record LimitsDown (l n : Line) : Type 0 where
+  pub upper : n .limits .upper ≡ l .limits .upper
+  pub lower : LowerBecomes l n (l .limits .lower .0 -ℤ fall l n)
+
+abbrev pub LimitsMoved : Side → Line → Line → Type 0
+LimitsMoved Up l n = LimitsUp l n
+LimitsMoved Down l n = LimitsDown l n
+
+-- The whole line, over shift line c, after which `left` shifts are left. Its centre and half-widths are rule 3's of one shift. "Holds of the
+-- shifted side end, that side's pressure is judged anew from that second. The other side's holds go on, and new pressure there starts at
+-- that second."
+pub record LineShifted (near : Millionths) (left : ℕ) (c : ShiftLine) (l n : Line) : Type 0 where
+  pub terms : n .terms ≡ l .terms
+  pub centre : Centre (alike Up (c .side)) (alike Down (c .side)) l n
+  pub halfs : HalfWidths 1 l n
+  pub limits : LimitsMoved (c .side) l n
+  pub book : n .book ≡ l .book
+  pub holds : (side : Side)
+      → Life left (c .second) (presses side near n) (remaining (c .side) side (hold-of side (l .holds))) (hold-of side (n .holds))
