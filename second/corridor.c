@@ -1,6 +1,6 @@
 /*
- * corridor.c: the engine itself, in the order of the paper: reading, opening numbers, pressure, holds,
- * shifts, events, questions.
+ * corridor.c: the engine itself: reading, opening numbers, opening, pressure and holds, shifts, events,
+ * questions. METHOD with a number is a chapter of docs/METHOD.md, and an item of it.
  *
  * Ranges. A settlement price is at most 10^8 away from zero, a half-width at most 10^8, a half-move at
  * most half of that. After 16 shifts a market bound is at most 10^8 + 10^8 + 16 x 10^8 = 1.8 x 10^9 away
@@ -83,7 +83,7 @@ static uint32_t line_number(const Session *session, uint32_t id)
 
 /* ---- Opening numbers ---- */
 
-/* The search ends at the first key not before the days left. */
+/* The key that is found is R of METHOD 4.3. It is the first one in 4.1, and there is none in 4.2. */
 Millionths corridor_rate(const Keys *keys, Days days_left)
 {
     uint32_t found = 0;
@@ -135,7 +135,7 @@ static Steps half_width_at(Steps normal, Millionths rate)
     return (Steps){ceiling_division(normal.steps * rate.millionths, MILLION)};
 }
 
-/* Works out the interest bounds from the level 1 market bounds as they stand. */
+/* METHOD 8, of the centre and the first half-width that the line has now. */
 static void set_interest_bounds(Line *line)
 {
     int64_t upper_market = line->centre.steps + line->half_width[0].steps;
@@ -144,7 +144,7 @@ static void set_interest_bounds(Line *line)
     line->interest.lower.steps = floor_division(lower_market * line->lower_factor.billionths, BILLION);
 }
 
-/* Without flag bit 0 a lower limit below one step becomes one step, and stays there. */
+/* METHOD 9.4 and 16.3. What was lifted once is lifted again after each later fall, so it never leaves the floor. */
 static void apply_floor(Line *line)
 {
     if (!line->permits_negative && line->limits.lower.steps < 1) {
@@ -383,7 +383,7 @@ static bool presses_down(const Line *line, int64_t zone)
         && (line->ask.steps - line->limits.lower.steps) * MILLION < zone;
 }
 
-/* A hold starts when pressure starts, ends when it ends, and is untouched where pressure goes on. */
+/* METHOD 14.2. What is kept of a hold is its due second, so that a hold goes on by being left alone. */
 static void judge_hold(Session *session, Seconds *due, bool presses, Seconds now)
 {
     if (!presses) {
@@ -411,8 +411,8 @@ typedef struct {
     uint32_t index;
 } Hold;
 
-/* The hold to be served first. The order of the search is the order of service at one second: up before
-   down, then the lowest line; so a later hold is taken only where it is strictly earlier. */
+/* The hold that METHOD 15.2 serves next. Holds are looked at in the order that decides where several are due at
+   once, so that another one is taken only where it is due strictly sooner. */
 static Hold first_hold(const Session *session)
 {
     Hold first = {NEVER, SIDE_UP, 0};
@@ -548,7 +548,7 @@ static void refuse_event(EventAnswer *answer, Refusal reason)
     answer->reason = reason;
 }
 
-/* The refusals come in the paper's order, 12, 10, 11, 13, 14, and all before the session is touched. */
+/* The refusals come in the order of METHOD 20, 12, 10, 11, 13, 14, and all before the session is touched. */
 void corridor_event(Session *session, const uint8_t *bytes, size_t length, EventAnswer *answer)
 {
     if (length != EVENT_BYTES) {

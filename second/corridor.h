@@ -1,5 +1,6 @@
 /*
- * corridor.h: the price-corridor engine, written a second time from the paper and docs/DECISIONS.md.
+ * corridor.h: the price-corridor engine, written a second time from the rules alone, which docs/METHOD.md and
+ * docs/DECISIONS.md state.
  *
  * It opens a session from a morning table, takes timed events one by one, answers each with the shifts
  * it called for, and answers questions on limits, order prices and interest bounds.
@@ -34,7 +35,7 @@ typedef struct { int64_t days; } Days;
 
 typedef enum { SIDE_UP = 0, SIDE_DOWN = 1 } Side;
 
-/* The numbers given when we say no, as the paper lists them. */
+/* The refusals by their numbers, METHOD 23. */
 typedef enum {
     NOT_REFUSED = 0,
     REFUSED_LENGTH_OR_OFFSETS = 1,
@@ -142,7 +143,7 @@ size_t corridor_table_length(const uint8_t *header);
 /* Opens a session. After a refusal the session must not be used. */
 TableAnswer corridor_open(const uint8_t *table, size_t length, Session *session);
 
-/* Takes one event. A refused event leaves the session as it stood. */
+/* Takes one event. One that is refused changes no byte of the session. */
 void corridor_event(Session *session, const uint8_t *bytes, size_t length, EventAnswer *answer);
 
 /* The three questions. They serve no holds and know no refusal but 13. */
@@ -150,13 +151,13 @@ BoundsAnswer corridor_limits(const Session *session, uint32_t id);
 BoundsAnswer corridor_interest_bounds(const Session *session, uint32_t id);
 Place corridor_place(const Session *session, uint32_t id, Steps price);
 
-/* The opening numbers, one function for each, so that the paper's figures can be run on them. */
+/* The opening numbers, one function for each, so that the figures of METHOD 25 can be run on them. */
 Millionths corridor_rate(const Keys *keys, Days days_left);
 Billionths corridor_exponent(Millionths rate, Days days_left);
 Billionths corridor_up_factor(Billionths exponent);
 Billionths corridor_down_factor(Billionths up_factor);
 
-/* Division toward minus and plus infinity; the divisor is positive. */
+/* The quotient rounded down and up, whatever the sign (METHOD 1.6); the divisor is positive. */
 int64_t floor_division(int64_t dividend, int64_t divisor);
 int64_t ceiling_division(int64_t dividend, int64_t divisor);
 

@@ -1,5 +1,5 @@
 /*
- * draft.c: turns drafted fields into the little-endian bytes of the paper, and back.
+ * draft.c: turns drafted fields into the bytes of METHOD 2, and back.
  */
 #include "draft.h"
 

@@ -1,7 +1,7 @@
 /*
- * figures.c: runs every figure of the paper and every decided example, and compares with the answers stated
- * there. The labels A1 to D11 are those of docs/DECISIONS.md. Whole inputs are run on the engine of engine.h,
- * this one or the proved one; what only a look inside shows is checked of this one.
+ * figures.c: runs every figure of METHOD 25 (docs/METHOD.md) and every decided example, and compares with the
+ * answers stated there. The labels A1 to D11 are those of docs/DECISIONS.md. Whole inputs are run on the engine
+ * of engine.h, this one or the proved one; what only a look inside shows is checked of this one.
  */
 #include "corridor.h"
 #include "draft.h"
@@ -70,7 +70,7 @@ static Text whole_text(const uint8_t *bytes, size_t length)
 
 /* ---- Tables ---- */
 
-/* The paper's sample table: one key of rate 0 and contract 7. */
+/* The table of METHOD 25's session: one key of rate 0 and contract 7. */
 static TableDraft sample(void)
 {
     TableDraft draft = {
@@ -107,7 +107,7 @@ static TableDraft sample_with_growth(int32_t settlement, uint32_t half_width, ui
     return draft;
 }
 
-/* The paper's floor figure: price 30, half-width 30, no growth. */
+/* METHOD 25.8: price 30, half-width 30, no growth. */
 static TableDraft sample_near_floor(void)
 {
     TableDraft draft = sample_with_growth(30, 30, 900000, FLAG_WATCHED);
@@ -266,7 +266,7 @@ static Text every_minute(int first, int shifts, const char *side_and_id)
     return text;
 }
 
-/* ---- Figures of the paper: opening numbers ---- */
+/* ---- Figures of METHOD 25: opening numbers ---- */
 
 static void figures_of_divisions(void)
 {
@@ -372,9 +372,9 @@ static void figures_of_floor(void)
     check_number("frozen", line->lower_frozen, true);
 }
 
-/* ---- Figures of the paper: events and program ---- */
+/* ---- Figures of METHOD 25: events and program ---- */
 
-/* The paper's sample input, laid out byte by byte at the paper's offsets, apart from the draft's code. */
+/* The sample table, laid out byte by byte at the offsets of METHOD 25, apart from the draft's code. */
 static const uint8_t SAMPLE_TABLE[] = {
     1, 0, 0, 0, 1, 0, 0, 0, 48, 0, 0, 0, 1, 0, 0, 0, 40, 0, 0, 0,
     0xe8, 3, 0, 0, 60, 0, 0, 0, 2, 0, 0, 0, 0x50, 0xc3, 0, 0, 0x20, 0xa1, 7, 0,
@@ -401,10 +401,10 @@ static void figures_of_program(void)
 static void figures_of_pressure(void)
 {
     TableDraft draft = sample();
-    check_session("bid beyond the limit presses", &draft, "70 U 7\n", EVENTS(draft_bid(10, 7, 1051), draft_tick(70)));
+    check_session("bid 1051, above the limit", &draft, "70 U 7\n", EVENTS(draft_bid(10, 7, 1051), draft_tick(70)));
     check_session("ask 955 does not press", &draft, "", EVENTS(draft_ask(10, 7, 955), draft_tick(1000)));
     check_session("ask 954 presses", &draft, "70 D 7\n", EVENTS(draft_ask(10, 7, 954), draft_tick(70)));
-    check_session("ask beyond the limit presses", &draft, "70 D 7\n", EVENTS(draft_ask(10, 7, 949), draft_tick(70)));
+    check_session("ask 949, below the limit", &draft, "70 D 7\n", EVENTS(draft_ask(10, 7, 949), draft_tick(70)));
     check_session("a pressing quote keeps the hold", &draft, "70 U 7\n",
                   EVENTS(draft_bid(10, 7, 1046), draft_bid(50, 7, 1049), draft_quote(60, 7, 1047, 1060),
                          draft_tick(70)));
@@ -414,7 +414,7 @@ static void figures_of_pressure(void)
     check_session("not under watch", &draft, "", EVENTS(draft_bid(10, 7, 1100), draft_tick(1000)));
 }
 
-/* After two up shifts and one down: centre, half-widths, bounds and limits by hand from the paper. */
+/* After two up shifts and one down: centre, half-widths, bounds and limits by hand from METHOD 16. */
 static void figures_of_shifts(void)
 {
     TableDraft draft = sample_of_two();
@@ -432,7 +432,8 @@ static void figures_of_shifts(void)
     }
 }
 
-/* With growth, the bounds are worked out from the market bounds, not moved by twice the half-move. */
+/* METHOD 8.1: with growth a bound follows its market bound times the factor, so it does not move by twice the
+   half-move. */
 static void figures_of_shifts_with_growth(void)
 {
     TableDraft draft = sample_with_growth(-10, 100, 500000, FLAG_WATCHED | FLAG_PERMITS_NEGATIVE);

@@ -1,5 +1,5 @@
 /*
- * input.h: a whole input as the program reads it: a table, and then its events.
+ * input.h: a whole input of the program, parted into table and events.
  */
 #ifndef INPUT_H
 #define INPUT_H
@@ -13,7 +13,7 @@ typedef struct {
     size_t events_length;
 } Input;
 
-/* The header's counts say where the table ends; an input that ends earlier is all table. */
+/* Parted as METHOD 22.1 says: by the counts in the header. What is too short for them is all table. */
 Input input_of(const uint8_t *bytes, size_t length);
 
 /* How many of the bytes left belong to the next event: only the last one can be cut short. */

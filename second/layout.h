@@ -1,6 +1,6 @@
 /*
  * layout.h: where each field stands in the table and in an event, counted in 32-bit fields, and the flag
- * bits. The names are the paper's.
+ * bits: METHOD 3 and 12.
  */
 #ifndef LAYOUT_H
 #define LAYOUT_H

@@ -1,6 +1,6 @@
 /*
- * program.c: reads a table and then its events from a stream and prints the answers. The events are read
- * in chunks and never all kept, so an input may be of any length.
+ * program.c: METHOD 22 from one stream to another. The events are read in chunks and never all kept, so an
+ * input may be of any length.
  */
 #include "program.h"
 
@@ -12,7 +12,7 @@
 /* A whole number of events, so that only the last chunk of an input can end in a cut event. */
 enum { CHUNK_BYTES = 3200 * EVENT_BYTES };
 
-/* Reads no further than the header's counts say; an input that ends earlier gives a shorter table. */
+/* Reads no byte of the events. Where the input is too short for its counts, so is the table. */
 static size_t read_table(FILE *input, uint8_t *table)
 {
     size_t length = fread(table, 1, HEADER_BYTES, input);

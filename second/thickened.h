@@ -1,8 +1,8 @@
 /*
- * thickened.h: the events of an input with free events put between them; the method's word for the way back is thinned. A
- * free event is a tick, or a quote that repeats the standing bid and ask of its contract (an empty one on an empty book too),
- * at a time from the clock to that of the next accepted event. It leaves all shift lines, joined over the events, and the
- * session after that next event as they are without it. Where no accepted event follows, nothing is claimed, and none is put.
+ * thickened.h: the events of an input with free events put between them; METHOD 26.6 calls the way back thinned. Free is
+ * what tells nothing new (METHOD 26.1: a tick, or the bid and ask that stand already, an empty book's too), not before the
+ * clock and not after the next accepted event. All shift lines, joined over the events, and the session after that next event
+ * are the same without it (METHOD 26.3). Where no accepted event follows, nothing is claimed (26.5), and none is put.
  */
 #ifndef THICKENED_H
 #define THICKENED_H
