@@ -7,6 +7,7 @@
 #include "draft.h"
 #include "engine.h"
 #include "rows.h"
+#include "sample.h"
 
 #include <inttypes.h>
 #include <stdio.h>
@@ -69,19 +70,6 @@ static Text whole_text(const uint8_t *bytes, size_t length)
 }
 
 /* ---- Tables ---- */
-
-/* The table of METHOD 25's session: one key of rate 0 and contract 7. */
-static TableDraft sample(void)
-{
-    TableDraft draft = {
-        .header = {[HEADER_SESSION_END] = 1000, [HEADER_HOLD] = 60, [HEADER_MOST_SHIFTS] = 2,
-                   [HEADER_NEAR_SHARE] = 50000, [HEADER_SHIFT_SHARE] = 500000},
-        .keys = {{365, 0}},
-        .contracts = {{1000, 1000, 1, 100000, 200000, 300000, 500000, 90, 7, FLAG_WATCHED}},
-    };
-    draft_counts(&draft, 1, 1);
-    return draft;
-}
 
 /* The sample with a second contract 8 alike and 16 shifts. */
 static TableDraft sample_of_two(void)
@@ -951,6 +939,166 @@ static void readings_of_repeats(void)
                          draft_tick(250)));
 }
 
+/* ---- Figures of our own, of what no other one shows ---- */
+
+static void check_levels(const char *name, const Line *line, const Levels *levels)
+{
+    check_number(name, line->centre.steps, levels->centre);
+    for (int level = 0; level < LEVELS; level++) {
+        check_number(name, line->half_width[level].steps, levels->half_width[level]);
+    }
+}
+
+static void figures_of_levels(void)
+{
+    for (size_t i = 0; i < LEVEL_FIGURES; i++) {
+        const LevelFigure *figure = &LEVEL_FIGURE[i];
+        TableDraft draft = sample_of_levels(figure);
+        Course course = started(&draft);
+        check_levels(figure->name, &course.session.lines[0], &figure->opened);
+        const EventDraft events[] = {figure->quote, draft_tick(70)};
+        give(&course, &events[0]);
+        give(&course, &events[1]);
+        check_levels(figure->name, &course.session.lines[0], &figure->shifted);
+        check_program(figure->name, &draft, 0, figure->answer, events, 2);
+    }
+}
+
+/* The sample with other keys, two at most, and other days left. */
+static TableDraft sample_with_keys(uint32_t days, uint32_t rate, uint32_t second_days, uint32_t second_rate,
+                                   uint32_t days_left)
+{
+    TableDraft draft = sample();
+    const uint32_t keys[][KEY_FIELDS] = {{days, rate}, {second_days, second_rate}};
+    draft_counts(&draft, second_days == 0 ? 1 : 2, 1);
+    memcpy(draft.keys, keys, sizeof keys);
+    draft.contracts[0][CONTRACT_DAYS_LEFT] = days_left;
+    return draft;
+}
+
+/* For every number of days, the highest rate whose exponent is not above the cap, and the rate after that one.
+   rate x days x 1,000 / 365 is under 500,000,001 exactly where rate x days is at most 182,500,000. */
+static void figures_of_cap_by_days(void)
+{
+    int wrong = 0;
+    for (uint32_t days = 1; days <= 3650; days++) {
+        uint32_t rate = 182500000 / days < 1000000 ? 182500000 / days : 1000000;
+        TableDraft draft = sample_with_keys(days, rate, 0, 0, days);
+        wrong += table_text(&draft).text[0] == 'T';
+        draft.keys[0][KEY_RATE] = rate + 1;
+        wrong += strcmp(table_text(&draft).text, rate == 1000000 ? "T 4 1\n" : "T 7 1\n") != 0;
+    }
+    check_shown("both sides of the cap, for all days", wrong, 0);
+}
+
+/*
+ * The exponent is rate x days x 1,000 / 365 rounded down: the product alone decides, between keys as at one.
+ *
+ *   249,658 x   731 = 182,499,998   499,999,994, the nearest under the cap
+ *    50,000 x 3,650 = 182,500,000   500,000,000, the cap itself, as with 20 other pairs
+ *   106,043 x 1,721 = 182,500,003   500,000,008, the nearest above: the two products between have no such factors
+ */
+static void figures_of_cap(void)
+{
+    check_number("y nearest under", corridor_exponent((Millionths){249658}, (Days){731}).billionths, 499999994);
+    check_number("y at the cap", corridor_exponent((Millionths){50000}, (Days){3650}).billionths, 500000000);
+    check_number("y nearest above", corridor_exponent((Millionths){106043}, (Days){1721}).billionths, 500000008);
+    /* 10^9 + 500,000,000 + 125,000,000 + 20,833,333 + 2,604,166 + 260,416 + 21,701 + 1,550 + 96 + 5. */
+    Billionths up = corridor_up_factor((Billionths){500000000});
+    check_number("up factor at the cap", up.billionths, 1648721267);
+    check_number("down factor at the cap", corridor_down_factor(up).billionths, 606530661);
+
+    /* Half-width 50,000,000: 150,000,000 x up is 247,308,190.05, 50,000,000 x down is 30,326,533.05; the limits lie
+       a quarter of 216,981,658, rounded down, from P. A negative price has the same below zero, upper for lower. */
+    TableDraft draft = sample_with_keys(3650, 50000, 0, 0, 3650);
+    const uint32_t large[] = {100000000, 100000000, 1, 500000, 500000, 500000};
+    memcpy(draft.contracts[0], large, sizeof large);
+    check_program("at the cap", &draft, 0, "7 45754586 154245414 30326533 247308191\n", NULL, 0);
+    draft.contracts[0][CONTRACT_SETTLEMENT] = (uint32_t)-100000000;
+    draft.contracts[0][CONTRACT_FLAGS] |= FLAG_PERMITS_NEGATIVE;
+    check_program("at the cap below zero", &draft, 0, "7 -154245414 -45754586 -247308191 -30326533\n", NULL, 0);
+
+    draft = sample_with_keys(731, 249658, 0, 0, 731);
+    check_program("nearest under the cap", &draft, 0, "7 683 1317 545 1814\n", NULL, 0);
+    draft = sample_with_keys(1721, 106043, 0, 0, 1721);
+    check_table_refused("nearest above the cap", &draft, REFUSED_EXPONENT, 1);
+
+    /* Contract 7 at the cap, and on line 2 contract 8 above it; with a day less its product is 182,393,960. */
+    draft = sample_with_keys(1721, 106043, 3650, 50000, 3650);
+    draft_counts(&draft, 2, 2);
+    memcpy(draft.contracts[1], draft.contracts[0], sizeof draft.contracts[0]);
+    draft.contracts[1][CONTRACT_ID] = 8;
+    draft.contracts[1][CONTRACT_DAYS_LEFT] = 1721;
+    check_table_refused("above the cap on line 2", &draft, REFUSED_EXPONENT, 2);
+    draft.contracts[1][CONTRACT_DAYS_LEFT] = 1720;
+    check_program("a day less", &draft, 0, "7 683 1317 545 1814\n8 683 1317 546 1814\n", NULL, 0);
+
+    /* Half-way between two keys on a falling curve, where a rate is rounded down and not toward the first key's. */
+    draft = sample_with_keys(3124, 58401, 3126, 58400, 3125);
+    check_program("58,400 between keys, the cap", &draft, 0, "7 683 1317 545 1814\n", NULL, 0);
+    draft = sample_with_keys(3124, 58401, 3126, 58401, 3125);
+    check_table_refused("58,401 between keys", &draft, REFUSED_EXPONENT, 1);
+    draft = sample_with_keys(1720, 106044, 1722, 106041, 1721);
+    check_program("106,042 between keys", &draft, 0, "7 683 1317 545 1814\n", NULL, 0);
+    draft = sample_with_keys(1720, 106044, 1722, 106042, 1721);
+    check_table_refused("106,043 between keys, the nearest above", &draft, REFUSED_EXPONENT, 1);
+}
+
+/* Each quote is the limit itself: distance 0, zone 5. The watch alone tells the answers apart. */
+static void figures_of_watch(void)
+{
+    TableDraft watched = sample();
+    TableDraft unwatched = sample();
+    unwatched.contracts[0][CONTRACT_FLAGS] = 0;
+    check_program("bid at the limit, watched", &watched, 0, "70 U 7\n7 950 1100 900 1150\n",
+                  EVENTS(draft_bid(10, 7, 1050), draft_tick(69), draft_tick(1000)));
+    check_program("bid at the limit, unwatched", &unwatched, 0, "7 950 1050 900 1100\n",
+                  EVENTS(draft_bid(10, 7, 1050), draft_tick(69), draft_tick(1000)));
+    check_program("ask at the limit, watched", &watched, 0, "70 D 7\n7 900 1050 850 1100\n",
+                  EVENTS(draft_ask(10, 7, 950), draft_tick(69), draft_tick(1000)));
+    check_program("ask at the limit, unwatched", &unwatched, 0, "7 950 1050 900 1100\n",
+                  EVENTS(draft_ask(10, 7, 950), draft_tick(69), draft_tick(1000)));
+
+    /* Unwatched, contract 7 calls nothing, and is shifted by contract 8 all the same. Watched, it is the first to
+       call, and after its shift neither bid is near the limit. */
+    TableDraft two = sample_of_two();
+    check_program("both watched", &two, 0, "70 U 7\n7 950 1100 900 1150\n8 950 1100 900 1150\n",
+                  EVENTS(draft_bid(10, 7, 1050), draft_bid(40, 8, 1050), draft_tick(1000)));
+    two.contracts[0][CONTRACT_FLAGS] = 0;
+    check_program("one unwatched", &two, 0, "100 U 8\n7 950 1100 900 1150\n8 950 1100 900 1150\n",
+                  EVENTS(draft_bid(10, 7, 1050), draft_bid(40, 8, 1050), draft_tick(1000)));
+}
+
+/* Price 30, half-width 30, half-move 7, level 1 bounds 0 and 60: a shift moves one bound by 14. Asks are at the
+   lower limit or beyond it, and where no shift is called for one is still left. */
+static void figures_of_frozen_quotes(void)
+{
+    TableDraft draft = sample_near_floor();
+    const char *calls_once = "61 D 7\n7 1 59 -14 60\n";
+    /* Half the corridor is 966,667 x 60 / 2,000,000 rounded down, 29: lower limit 1, not frozen, until its own shift. */
+    draft.contracts[0][CONTRACT_WIDTH_SHARE] = 966667;
+    check_program("ask at limit 1, not frozen", &draft, 0, calls_once, EVENTS(draft_ask(1, 7, 1), draft_tick(61)));
+    check_program("ask at limit 1, frozen by a shift", &draft, 0, calls_once,
+                  EVENTS(draft_ask(1, 7, 1), draft_tick(61), draft_tick(1000)));
+    /* It is 30: lower limit 0, lifted to 1. */
+    draft.contracts[0][CONTRACT_WIDTH_SHARE] = 1000000;
+    check_program("ask at limit 1, frozen at opening", &draft, 0, "7 1 60 0 60\n",
+                  EVENTS(draft_ask(1, 7, 1), draft_tick(61), draft_tick(1000)));
+    check_program("bid at the upper limit, lower one frozen", &draft, 0, "61 U 7\n7 1 74 0 74\n",
+                  EVENTS(draft_bid(1, 7, 60), draft_tick(61), draft_tick(1000)));
+    draft.contracts[0][CONTRACT_FLAGS] |= FLAG_PERMITS_NEGATIVE;
+    check_program("the same ask, no floor", &draft, 0, "61 D 7\n7 -14 60 -14 60\n",
+                  EVENTS(draft_ask(1, 7, 1), draft_tick(61), draft_tick(1000)));
+
+    /* Limits 3 and 57. The ask is beyond the limit after every shift, and calls the second one only where none froze it. */
+    draft = sample_near_floor();
+    check_program("ask -100, frozen by a shift", &draft, 0, "61 D 7\n7 1 57 -14 60\n",
+                  EVENTS(draft_ask(1, 7, -100), draft_tick(1000)));
+    draft.contracts[0][CONTRACT_FLAGS] |= FLAG_PERMITS_NEGATIVE;
+    check_program("ask -100, no floor", &draft, 0, "61 D 7\n121 D 7\n7 -25 57 -28 60\n",
+                  EVENTS(draft_ask(1, 7, -100), draft_tick(1000)));
+}
+
 int main(void)
 {
     figures_of_divisions();
@@ -985,6 +1133,11 @@ int main(void)
     readings_of_frozen_lines();
     readings_of_free_events();
     readings_of_repeats();
+    figures_of_levels();
+    figures_of_cap_by_days();
+    figures_of_cap();
+    figures_of_watch();
+    figures_of_frozen_quotes();
     printf("%d passed, %d failed\n", passed, failed);
     return failed == 0 ? EXIT_SUCCESS : EXIT_FAILURE;
 }

@@ -1,0 +1,35 @@
+/*
+ * sample.h: the sample table, and tables made of it whose three half-widths are worked out by hand. The answer to a whole
+ * input shows level 1 alone, so levels 2 and 3 are looked at inside this engine, and in the reports of the proved one.
+ */
+#ifndef SAMPLE_H
+#define SAMPLE_H
+
+#include "draft.h"
+
+/* The table of METHOD 25's session: one key of rate 0 and contract 7. */
+TableDraft sample(void);
+
+typedef struct {
+    int64_t centre;
+    int64_t half_width[LEVELS];
+} Levels;
+
+/* The sample with another contract 7; what stands on its line at opening, and once the quote, at second 10 and at a limit,
+   has brought about its shift at second 70. The last text is the whole answer to quote and tick. */
+typedef struct {
+    const char *name;
+    uint32_t contract[CONTRACT_FIELDS];
+    Levels opened;
+    EventDraft quote;
+    Levels shifted;
+    const char *answer;
+} LevelFigure;
+
+enum { LEVEL_FIGURES = 4 };
+
+extern const LevelFigure LEVEL_FIGURE[LEVEL_FIGURES];
+
+TableDraft sample_of_levels(const LevelFigure *figure);
+
+#endif
