@@ -1,14 +1,15 @@
 /*
  * host.c: the program "host". It gives the same inputs to this engine and to the proved one as a host in C has it: a
- * session in memory of its own, one event after another, damaged at the end. It also adds free events to each input
- * (thickened.h), which have to leave every number of that memory as it is without them. It fails at any difference, and
- * where too few inputs let an added event show.
+ * session in memory of its own, one event after another, damaged at the end; or memory without a session, where the table is
+ * refused. It also adds free events to each input (thickened.h), which have to leave every number of that memory as it is
+ * without them. It fails at any difference, and where too few inputs let an added event show.
  *
  *   host FILE..     generated inputs of a fixed seed, and then the files
  */
 #include "generate.h"
 #include "random.h"
 #include "rows.h"
+#include "sample.h"
 #include "tally.h"
 #include "text.h"
 #include "thickened.h"
@@ -32,11 +33,13 @@ typedef enum {
     COMPARED_SHORT_ROOM,
     COMPARED_QUESTIONS,
     COMPARED_REPORTS,
+    COMPARED_LEVELS,
     COMPARED_UNCHECKED,
     COMPARED_THICKENED_EVENTS,
     COMPARED_THICKENED_FEED,
     COMPARED_THICKENED_SECOND,
     COMPARED_DAMAGE,
+    COMPARED_NO_SESSION,
     COMPARISONS
 } Comparison;
 
@@ -48,11 +51,13 @@ static const char *const NAMES[COMPARISONS] = {
     [COMPARED_SHORT_ROOM] = "too little room said, nothing done",
     [COMPARED_QUESTIONS] = "limits and places as the closing rows say",
     [COMPARED_REPORTS] = "all that stands on a line",
+    [COMPARED_LEVELS] = "market bounds of the three levels, worked out by hand",
     [COMPARED_UNCHECKED] = "the same without the test of the memory",
     [COMPARED_THICKENED_EVENTS] = "shifts and memory with and without free events, event by event",
     [COMPARED_THICKENED_FEED] = "shifts and memory with and without free events, in buffers",
     [COMPARED_THICKENED_SECOND] = "second engine's shift lines and session with and without free events",
     [COMPARED_DAMAGE] = "damaged memory refused, and left as it was",
+    [COMPARED_NO_SESSION] = "memory without a session refused, after a refused table too, and left as it was",
 };
 
 typedef struct {
@@ -289,9 +294,7 @@ static void ask_report(const sundewcup_session *session, const Session *second, 
 static void ask_reports(const sundewcup_session *session, const Input *input)
 {
     Session second;
-    if (corridor_open(input->table, input->table_length, &second).kind == REFUSED) {
-        return;
-    }
+    corridor_open(input->table, input->table_length, &second);
     for (size_t at = 0; at < input->events_length; at += EVENT_BYTES) {
         EventAnswer answer;
         corridor_event(&second, input->events + at, input_event_length(input->events_length - at), &answer);
@@ -303,23 +306,108 @@ static void ask_reports(const sundewcup_session *session, const Input *input)
     expect(COMPARED_REPORTS, sundewcup_report(session, 0, out) == 13 && out[0] == 7);
 }
 
+/* ---- Figures of levels ---- */
+
+static void expect_levels(const sundewcup_session *session, const Levels *levels)
+{
+    int64_t out[SUNDEWCUP_REPORT_NUMBERS];
+    bool good = sundewcup_report(session, 7, out) == 0 && out[5] == levels->centre;
+    for (int level = 0; good && level < LEVELS; level++) {
+        good = out[6 + 2 * level] == levels->centre - levels->half_width[level]
+            && out[7 + 2 * level] == levels->centre + levels->half_width[level];
+    }
+    expect(COMPARED_LEVELS, good);
+}
+
+static void take_levels(const LevelFigure *figure)
+{
+    uint8_t bytes[LONGEST_TABLE + 2 * EVENT_BYTES];
+    TableDraft draft = sample_of_levels(figure);
+    EventDraft tick = draft_tick(70);
+    size_t length = draft_write_table(&draft, bytes);
+    draft_write_event(&figure->quote, bytes + length);
+    draft_write_event(&tick, bytes + length + EVENT_BYTES);
+    sundewcup_session *session = make_session();
+    int64_t out[SUNDEWCUP_FEED_NUMBERS(2 * EVENT_BYTES)];
+    int64_t line;
+    expect(COMPARED_LEVELS, sundewcup_open(session, bytes, length, &line) == 0);
+    expect_levels(session, &figure->opened);
+    expect(COMPARED_LEVELS, sundewcup_feed(session, bytes + length, 2 * EVENT_BYTES, out,
+                                           SUNDEWCUP_FEED_NUMBERS(2 * EVENT_BYTES)) == ROW_NUMBERS);
+    expect_levels(session, &figure->shifted);
+    free(session);
+}
+
+/* ---- No session ---- */
+
+enum { MOST_ROOM = SUNDEWCUP_CLOSING_NUMBERS };
+
+/* Whether both functions that take events refuse the memory. All that they write is that no shift was made. */
+static bool events_refused(sundewcup_session *session, const uint8_t *events, size_t length, int64_t *out, size_t room)
+{
+    size_t made = SIZE_MAX;
+    return sundewcup_event(session, events, length, out, &made) == SUNDEWCUP_DAMAGED && made == 0
+        && sundewcup_feed(session, events, length, out, room) == SUNDEWCUP_DAMAGED_COUNT;
+}
+
+/* Whether each function that tests the memory finds no sound session there, before it looks at anything else, and writes
+   nothing. A tick, a cut event and no event at all are tried, and no room as well as enough of it. */
+static bool refused_by_all(sundewcup_session *session)
+{
+    static const uint8_t tick[EVENT_BYTES] = {[0] = 1, [8] = 4};
+    sundewcup_session before = *session;
+    int64_t out[MOST_ROOM];
+    int64_t out_before[MOST_ROOM];
+    memset(out, 0x55, sizeof out);
+    memcpy(out_before, out, sizeof out);
+    bool good = sundewcup_check(session) == SUNDEWCUP_DAMAGED;
+    good = good && events_refused(session, tick, EVENT_BYTES, out, MOST_ROOM);
+    good = good && events_refused(session, tick, EVENT_BYTES - 1, out, MOST_ROOM);
+    good = good && events_refused(session, tick, 0, out, MOST_ROOM);
+    good = good && events_refused(session, tick, EVENT_BYTES, out, 0);
+    good = good && sundewcup_close(session, out, MOST_ROOM) == SUNDEWCUP_DAMAGED_COUNT;
+    good = good && sundewcup_close(session, out, 0) == SUNDEWCUP_DAMAGED_COUNT;
+    for (uint32_t id = 0; id <= 7; id += 7) {
+        good = good && sundewcup_limits(session, id, out) == SUNDEWCUP_DAMAGED;
+        good = good && sundewcup_place(session, id, 1000) == SUNDEWCUP_DAMAGED;
+        good = good && sundewcup_report(session, id, out) == SUNDEWCUP_DAMAGED;
+    }
+    return good && memcmp(out, out_before, sizeof out) == 0 && same(session, &before);
+}
+
+static size_t refused_tables;
+
+/* The last session that was open; zeros until there is one. */
+static sundewcup_session earlier;
+
+/* A refused table leaves no session in the memory, whatever stood there before: in the memory handed over, bytes of nobody;
+   in another, an earlier session, so that a host which overlooks the refusal does not go on with that one. */
+static void take_refused(sundewcup_session *session, const Input *input)
+{
+    sundewcup_session *over = make_session();
+    int64_t line;
+    *over = earlier;
+    refused_tables++;
+    expect(COMPARED_NO_SESSION, refused_by_all(session));
+    expect(COMPARED_NO_SESSION, sundewcup_open(over, input->table, input->table_length, &line) != 0);
+    expect(COMPARED_NO_SESSION, refused_by_all(over));
+    free(over);
+}
+
+/* Memory that no table was ever opened in, of any bytes or, as a static is, of zeros. */
+static void take_unfilled(void)
+{
+    sundewcup_session *unfilled = make_session();
+    expect(COMPARED_NO_SESSION, refused_by_all(unfilled));
+    memset(unfilled, 0, sizeof *unfilled);
+    expect(COMPARED_NO_SESSION, refused_by_all(unfilled));
+    free(unfilled);
+}
+
 /* ---- Damage ---- */
 
+static size_t opened_sessions;
 static size_t damaged_sessions;
-
-static void expect_refused(sundewcup_session *session, const uint8_t *event)
-{
-    sundewcup_session before = *session;
-    int64_t out[SUNDEWCUP_FEED_NUMBERS(EVENT_BYTES)] = {7};
-    size_t made = SIZE_MAX;
-    bool good = sundewcup_event(session, event, EVENT_BYTES, out, &made) == SUNDEWCUP_DAMAGED && made == 0;
-    good = good && sundewcup_feed(session, event, EVENT_BYTES, out, SUNDEWCUP_FEED_NUMBERS(EVENT_BYTES)) == SUNDEWCUP_DAMAGED_COUNT;
-    good = good && sundewcup_close(session, out, SUNDEWCUP_FEED_NUMBERS(EVENT_BYTES)) == SUNDEWCUP_DAMAGED_COUNT;
-    good = good && sundewcup_limits(session, 7, out) == SUNDEWCUP_DAMAGED;
-    good = good && sundewcup_place(session, 7, 1000) == SUNDEWCUP_DAMAGED;
-    good = good && sundewcup_report(session, 7, out) == SUNDEWCUP_DAMAGED;
-    expect(COMPARED_DAMAGE, good && out[0] == 7 && same(session, &before));
-}
 
 /* One number of the first line or of the last row is changed; the rows of no contract say nothing. Where that makes another
    sound session it has to go on as one. */
@@ -338,11 +426,21 @@ static void damage(sundewcup_session *session, uint64_t number)
         expect(COMPARED_DAMAGE, sundewcup_check(session) == 0);
     } else {
         damaged_sessions++;
-        expect_refused(session, event);
+        expect(COMPARED_DAMAGE, refused_by_all(session));
     }
 }
 
 /* ---- Many inputs ---- */
+
+static void take_opened(sundewcup_session *session, const Input *input, const Answer *answer, uint64_t number)
+{
+    opened_sessions++;
+    ask_all(session, answer);
+    ask_reports(session, input);
+    expect(COMPARED_DAMAGE, sundewcup_check(session) == 0);
+    earlier = *session;
+    damage(session, number);
+}
 
 static void take(const uint8_t *bytes, size_t length, uint64_t number)
 {
@@ -359,15 +457,14 @@ static void take(const uint8_t *bytes, size_t length, uint64_t number)
     size_t size = second.count * sizeof(int64_t);
     expect(COMPARED_ROWS, second.count == events.count && memcmp(second.numbers, events.numbers, size) == 0);
     expect(COMPARED_TEXT, text_same(events.numbers, events.count, bytes, length));
-    if (second.count == 0 || second.numbers[0] != ROW_REFUSED_TABLE) {
-        expect(COMPARED_FEED, second.count == buffers.count && memcmp(second.numbers, buffers.numbers, size) == 0);
-    }
     expect(COMPARED_FEED, same(one, other));
     take_thickened(&input, one, &events, &random);
-    ask_all(one, &events);
-    ask_reports(one, &input);
-    expect(COMPARED_DAMAGE, sundewcup_check(one) == 0);
-    damage(one, number);
+    if (second.numbers[0] == ROW_REFUSED_TABLE) {
+        take_refused(one, &input);
+    } else {
+        expect(COMPARED_FEED, second.count == buffers.count && memcmp(second.numbers, buffers.numbers, size) == 0);
+        take_opened(one, &input, &events, number);
+    }
     free(one);
     free(other);
 }
@@ -411,10 +508,14 @@ int main(int count, char **words)
     for (int i = 1; i < count; i++) {
         take_file(words[i], (uint64_t)i);
     }
-    sundewcup_session *unfilled = make_session();
-    expect(COMPARED_DAMAGE, sundewcup_check(unfilled) == SUNDEWCUP_DAMAGED && damaged_sessions > INPUTS / 4);
-    free(unfilled);
+    for (int i = 0; i < LEVEL_FIGURES; i++) {
+        take_levels(&LEVEL_FIGURE[i]);
+    }
+    take_unfilled();
+    expect(COMPARED_DAMAGE, damaged_sessions > opened_sessions / 4);
+    expect(COMPARED_NO_SESSION, refused_tables >= INPUTS_FOR_EACH_COUNT);
     tally_print(&total, TALLY_FIRST_ADDED);
-    printf("%d inputs, %d of them files; %zu sessions damaged\n", INPUTS + count - 1, count - 1, damaged_sessions);
+    printf("%d inputs, %d of them files; %zu sessions damaged, %zu tables refused\n", INPUTS + count - 1, count - 1,
+           damaged_sessions, refused_tables);
     return judge() ? EXIT_SUCCESS : EXIT_FAILURE;
 }
