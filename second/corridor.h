@@ -133,7 +133,7 @@ typedef struct {
 
 typedef enum { PLACE_BELOW, PLACE_INSIDE, PLACE_ABOVE, PLACE_UNKNOWN_ID } Place;
 
-/* A second that no event can reach; it stands for "no hold". */
+/* A second that no event can reach: the due second of a side that has no hold. */
 extern const Seconds NEVER;
 
 /* How many bytes of an input belong to the table, by the counts of its 40 header bytes. Counts that are
