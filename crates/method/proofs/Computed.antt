@@ -1,11 +1,30 @@
 -- What is computed is what the words admit: a theorem for each statement of specs/Computed, in its order. Assumes nothing.
-use mathlib.Core.Path.{refl, subst}
-use Rattle.method.specs.words.Tables.{TableAnswered}
+use mathlib.Core.Path.{_≡_, refl, subst}
+use mathlib.Core.List.{List, _++_, map}
+use Prim.Native.Nat.{ℕ}
+use Rattle.method.specs.words.Types.{Row}
+use Rattle.method.specs.words.Tables.{Opening, opened, refused, TableAnswered}
 use Rattle.method.specs.words.Events.{EventAnswered}
-use Rattle.method.specs.computed.Equal.{OpeningIs, VerdictIs, RefusedPrintsOneRow, SessionIs, OpensProper, StaysProper, OneShift, OneEvent, OneNextState, SameAnswers, RightAnswers, SessionReached}
+use Rattle.method.specs.told.Rows.{rows-of-all, closing-row}
+use Rattle.method.specs.told.Program.{table-of, events-in, Prints, refusal, session}
+use Rattle.method.specs.computed.Equal.{
+  OpeningIs,
+  VerdictIs,
+  SessionIs,
+  OpensProper,
+  StaysProper,
+  OneShift,
+  OneEvent,
+  OneNextState,
+  SameAnswers,
+  RightAnswers,
+  SessionReached,
+  ProgramPrints,
+}
+use Rattle.method.specs.computed.Table.{opening}
 use Rattle.method.specs.computed.Relation.{Answers}
 use Rattle.method.specs.computed.Search.{run}
-use Rattle.method.specs.computed.Program.{rows-after, program}
+use Rattle.method.specs.computed.Program.{session-rows, rows-after, program}
 use Rattle.method.proofs.TableAnswered.{table-answered, answered-table}
 use Rattle.method.proofs.EventAnswered.{event-answered, answered-verdict}
 use Rattle.method.proofs.Answers.{run-right, answers-unique, finally-reached}
@@ -18,10 +37,6 @@ computed-opening b a = (λ e. subst (TableAnswered b) e (table-answered b), answ
 
 pub computed-verdict : VerdictIs
 computed-verdict s b a = (λ e. subst (EventAnswered s b) e (event-answered s b), answered-verdict s b)
-
-pub computed-refused-table : RefusedPrintsOneRow
-unfolding rows-after program
-computed-refused-table b why line h input cut = rw (cut, answered-table b h) refl
 
 -- ---- rule 2
 pub computed-session : SessionIs
@@ -56,3 +71,26 @@ computed-run s v bs rs =
 
 pub computed-reached : SessionReached
 computed-reached s bs = finally-reached s bs
+
+-- ---- the program
+prints-one : {input : List ℕ} {rows : List Row} → Prints input rows → rows ≡ program input
+unfolding program rows-after session-rows
+prints-one (refusal h) = rw (answered-table _ h) refl
+prints-one {input} (session {o} h k) =
+    let e = answered-table _ h in
+    let one = computed-session o (opens-proper o (record { table = table-of input; opened-by = h })) (events-in input) _ _ .0 k in
+    rw e (λ i. rows-of-all (one .0 i) ++ map closing-row (one .1 i .lines))
+
+prints-it : (input : List ℕ) → Prints input (program input)
+unfolding program rows-after session-rows
+prints-it input = go (opening (table-of input)) refl
+  where
+    go : (a : Opening) → opening (table-of input) ≡ a → Prints input (rows-after a (events-in input))
+    go (refused why line) e = refusal (subst (TableAnswered (table-of input)) e (table-answered (table-of input)))
+    go (opened o) e =
+        let h = subst (TableAnswered (table-of input)) e (table-answered (table-of input)) in
+        let p = opens-proper o (record { table = table-of input; opened-by = h }) in
+        session h (run-in-words o (p .sound) (p .distinct) (events-in input))
+
+pub computed-program : ProgramPrints
+computed-program input rows = (prints-one, λ e. rw e (prints-it input))

@@ -5,3 +5,4 @@ pub mod Examples
 pub mod Fields
 pub mod Pressing
 pub mod Reported
+pub mod Edges

@@ -1,17 +1,16 @@
 -- What is computed is what the words admit, and nothing else: so nobody has to believe `opening`, `verdict`, `judge`, `onward`, `applied`, `next`,
 -- `serve`, `run` or `program`. Statements and no proof; the name in brackets is the theorem, in proofs/Computed.
-use mathlib.Core.List.{List, [], _∷_}
+use mathlib.Core.List.{List}
 use mathlib.Core.Logic.{_↔_}
 use mathlib.Core.Path.{_≡_}
 use Prim.Native.Nat.{ℕ, _<_}
-use lib.ListN.{take}
-use Rattle.method.specs.words.Types.{ShiftLine, TableReason, EventAnswer, Row, State}
-use Rattle.method.specs.words.Layout.{header-of, table-length}
+use Rattle.method.specs.words.Types.{ShiftLine, EventAnswer, Row, State}
 use Rattle.method.specs.words.Ranges.{Every}
-use Rattle.method.specs.words.Tables.{Opening, refused, TableAnswered}
+use Rattle.method.specs.words.Tables.{Opening, TableAnswered}
 use Rattle.method.specs.words.Events.{IsEvent, EventAnswered}
 use Rattle.method.specs.words.Sessions.{ShiftedTo, AppliedTo, Follows, Answer, accepted, AnswersInWords}
 use Rattle.method.specs.words.Rules.{Opens, AfterAny}
+use Rattle.method.specs.told.Program.{Prints}
 use Rattle.method.specs.computed.Opening.{ids}
 use Rattle.method.specs.computed.Table.{opening}
 use Rattle.method.specs.computed.Shift.{onward}
@@ -27,12 +26,6 @@ OpeningIs = (b : List ℕ) (a : Opening) → (opening b ≡ a) ↔ TableAnswered
 
 abbrev pub VerdictIs : Type 0
 VerdictIs = (s : State) (b : List ℕ) (a : EventAnswer) → (verdict s (read b) ≡ a) ↔ EventAnswered s b a
-
--- Of a refused table the program prints one row and nothing more, whatever events follow. (computed-refused-table)
-abbrev pub RefusedPrintsOneRow : Type 0
-RefusedPrintsOneRow =
-    (b : List ℕ) (why : TableReason) (line : ℕ) → TableAnswered b (refused why line) → (input : List ℕ) → take (table-length (header-of input)) input ≡ b
-    → program input ≡ Row.RefusedTable why line ∷ []
 
 -- ---- rule 2: the answers to any byte strings from a proper state, and the whole state after them (computed-session)
 abbrev pub SessionIs : Type 0
@@ -76,3 +69,7 @@ RightAnswers = (s : State) → Sound s → (bs : List (List ℕ)) (rs : List Ans
 -- and leaves the state that they leave. (computed-reached)
 abbrev pub SessionReached : Type 0
 SessionReached = (s : State) (bs : List (List ℕ)) → finally s bs ≡ reached s bs (run s bs)
+
+-- ---- what the program prints (computed-program)
+abbrev pub ProgramPrints : Type 0
+ProgramPrints = (input : List ℕ) (rows : List Row) → Prints input rows ↔ (rows ≡ program input)

@@ -15,7 +15,7 @@ use Rattle.method.specs.computed.Judge.{judge}
 use Rattle.method.specs.computed.Shift.{with-lines, after}
 
 -- ---- what a byte string says
--- "bid, ask (signed, ±2,000,000,000). An absent price is 0."
+-- a price field, present or absent
 abbrev pub price-good : Bool → ℤ → Bool
 price-good true z = in-span 2_000_000_000 z
 price-good false z = same z (pos 0)
@@ -24,18 +24,17 @@ abbrev pub price-of : Bool → ℤ → Price
 price-of true z = Given (steps z)
 price-of false z = Absent
 
--- "A tick has flags 4, and its id, bid and ask are 0."
+-- METHOD 12.1
 unfoldable pub read-tick : Seconds → ℕ → ℤ → ℤ → Event
 read-tick time id bid ask = demand (eqb id 0 && same bid (pos 0) && same ask (pos 0)) Damaged (Tick time)
 
--- "Otherwise the event is a quote and replaces both standing prices of its contract; flags 0 means an empty book."
--- "flags (bit 0 bid present, bit 1 ask present, bit 2 tick)"
+-- METHOD 12.2
 unfoldable pub read-quote : Seconds → ℕ → ℕ → ℤ → ℤ → Event
 read-quote time id flags bid ask =
     demand (ltb flags 4 && price-good (bit 0 flags) bid && price-good (bit 1 flags) ask) Damaged
     (Quoted (record { time = time; id = id; bid = price-of (bit 0 flags) bid; ask = price-of (bit 1 flags) ask }))
 
--- "20 bytes, five fields as in the table: time; id; flags ..; bid, ask"
+-- METHOD 12.3, 12.7
 unfoldable pub read : List ℕ → Event
 read b =
     let time : Seconds = seconds (word b 0) in
@@ -44,13 +43,13 @@ read b =
     demand (eqb (length b) 20) Damaged
     (cond (eqb (word b 8) 4) (read-tick time (word b 4) bid ask) (read-quote time (word b 4) (word b 8) bid ask))
 
--- ---- whether it is refused: "Event order: 12, 10, 11, 13, 14; a tick meets neither 13 nor 14."
+-- ---- whether it is refused, test by test in the order of METHOD 20
 unfoldable pub in-session : State → Seconds → EventAnswer → EventAnswer
 in-session s time onward =
     demand (leb (time .0) (s .end .0)) (EventAnswer.Refused EventReason.AfterEnd)
     (demand (leb (s .clock .0) (time .0)) (EventAnswer.Refused EventReason.BeforeClock) onward)
 
--- 14: "bid above ask, both present"
+-- bid and ask, where both are there
 unfoldable pub not-crossed : Price → Price → Bool
 not-crossed (Given bid) (Given ask) = leZ (bid .0) (ask .0)
 not-crossed (Given bid) Absent = true
@@ -64,7 +63,7 @@ verdict s (Quoted q) =
     (demand (known (q .id) (s .lines)) (EventAnswer.Refused EventReason.UnknownId)
     (demand (not-crossed (q .bid) (q .ask)) (EventAnswer.Refused EventReason.Crossed) EventAnswer.Accepted))
 
--- ---- what an accepted one does: "Then the event is applied and the clock set to t."
+-- ---- what an accepted one does, after the shifts that it calls for
 abbrev pub with-book : Line → Price → Price → Line
 with-book l bid ask =
     record { terms = l .terms; market = l .market; limits = l .limits; book = record { bid = bid; ask = ask }; holds = l .holds }
@@ -82,7 +81,7 @@ applied Damaged s = s
 applied (Tick time) s = with-lines s (s .lines) (s .left) time
 applied (Quoted q) s = with-lines s (quoted (s .near) (s .left) q (s .lines)) (s .left) (q .time)
 
--- "10 to 14 change nothing, and serve nothing."
+-- the state after an answer (METHOD 19.3, 19.4)
 unfoldable pub next : State → Event → Answer → State
 next s e (accepted cs) = applied e (after cs s)
 next s e (refused why) = s

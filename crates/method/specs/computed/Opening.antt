@@ -14,14 +14,12 @@ use Rattle.method.specs.words.Opening.{market-of, terms-of, corridor, fr
 use Rattle.method.specs.told.Questions.{known}
 
 -- ---- ranges (refusal 5)
--- "rates of levels 1, 2, 3, each 1..1,000,000 and not falling"
 unfoldable pub rates-good : Contract → Bool
 rates-good c =
     in-range 1 1_000_000 (c .rate1 .0) && in-range 1 1_000_000 (c .rate2 .0) && leb (c .rate1 .0) (c .rate2 .0)
     && in-range 1 1_000_000 (c .rate3 .0) && leb (c .rate2 .0) (c .rate3 .0)
 
--- "settlement price P (signed, ±100,000,000); spot (signed, same range); least price 1..100,000,000; rates ..; width share 0..1,000,000; days
--- left 0..3,650; id ..; flags. .. the rest must be zero. Without bit 0, P is at least 1."
+-- all fields but the id
 unfoldable pub fields-good : Contract → Bool
 fields-good c =
     in-span 100_000_000 (c .price .0) && (permits-negative (c .flags) || leZ (pos 1) (c .price .0)) && in-span 100_000_000 (c .spot .0)
@@ -34,7 +32,6 @@ ids ls = map (λ (l : Line). l .terms .id) ls
 unfoldable pub id-good : List Line → ℕ → Bool
 id-good earlier id = ltb 0 id && not (known id earlier)
 
--- "neither beyond its interest bound (equal is allowed)"
 unfoldable pub inside-bounds : Terms → Market → Limits → Bool
 inside-bounds t m k = leZ (k .upper .0) (bound Up t m) && leZ (bound Down t m) (k .lower .0)
 

@@ -8,7 +8,7 @@ use Rattle.method.specs.words.Sessions.{Answer, accepted, refused}
 use Rattle.method.specs.computed.Shift.{onward}
 use Rattle.method.specs.computed.Event.{read, verdict, next}
 
--- "first every hold due at or before t is served": no line where none is left to serve, else the first one's and then those of the
+-- the shift lines that an event at t calls for: none where no hold is left to serve, else the first one's and then those of the
 -- shifted state
 unfoldable pub Calls : Seconds → State → List ShiftLine → Type 0
 Calls t s [] = Done t s

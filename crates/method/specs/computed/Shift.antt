@@ -12,20 +12,19 @@ abbrev pub toward : Side → Steps → Steps → Steps
 toward Up by z = steps (z .0 +ℤ by .0)
 toward Down by z = steps (z .0 -ℤ by .0)
 
--- "Up: centre and each half-width grow by the line's half-move .. Down: the centre falls by the half-move, half-widths grow"
+-- the market after a shift
 unfoldable pub moved : Side → Steps → Market → Market
 moved side by m =
     record { centre = toward side by (m .centre); half1 = toward Up by (m .half1); half2 = toward Up by (m .half2); half3 = toward Up by (m .half3) }
 
--- From market m to market n: "interest bounds are worked out again, and the upper limit rises by the growth of the upper interest bound ..
--- the lower limit falls by the fall of the lower interest bound; without flag bit 0 a result below 1 becomes 1 and is frozen"
+-- the limits after it, where the market was m and is n
 unfoldable pub redrawn : Side → Terms → Market → Market → Limits → Limits
 redrawn Up t m n k = record { upper = steps (k .upper .0 +ℤ (bound Up t n -ℤ bound Up t m)); lower = k .lower; frozen = k .frozen }
 redrawn Down t m n k =
     floored (permits-negative (t .flags))
     (record { upper = k .upper; lower = steps (k .lower .0 -ℤ (bound Down t m -ℤ bound Down t n)); frozen = k .frozen })
 
--- "Holds of the shifted side end .. The other side's holds go on"
+-- the shifted side's hold ends
 abbrev pub ended : Side → Holds → Holds
 ended Up h = record { up = Idle; down = h .down }
 ended Down h = record { up = h .up; down = Idle }
@@ -35,14 +34,14 @@ moved-line side l =
     let n : Market = moved side (l .terms .halfmove) (l .market) in
     record { terms = l .terms; market = n; limits = redrawn side (l .terms) (l .market) n (l .limits); book = l .book; holds = ended side (l .holds) }
 
--- ".. that side's pressure is judged anew from that second .. and new pressure there starts at that second."
+-- and both sides are judged at the shift's second
 unfoldable pub shift-line : Millionths → ℕ → Side → Seconds → Line → Line
 shift-line near left side now l = judge near left now (moved-line side l)
 
 abbrev pub with-lines : State → List Line → ℕ → Seconds → State
 with-lines s ls left clock = record { lines = ls; clock = clock; end = s .end; hold = s .hold; left = left; near = s .near }
 
--- "A shift acts on all lines of the table (004, 66 to 71)." It is one of those that may be made.
+-- of every line, and one shift less is left
 unfoldable pub shifted : Side → Seconds → State → State
 shifted side now s = with-lines s (map (shift-line (s .near) (s .left - 1) side now) (s .lines)) (s .left - 1) (s .clock)
 

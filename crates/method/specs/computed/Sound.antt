@@ -25,7 +25,7 @@ pub record Sound (s : State) : Type 0 where
   pub exact : Every (Exact (s .near) (s .left)) (s .lines)
   pub served : Done (s .clock) s
 
--- no id stands twice (refusal 6: "id 0 or used on an earlier line")
+-- no id stands twice
 unfoldable pub Distinct : List ℕ → Type 0
 Distinct [] = Unit {0}
 Distinct (i ∷ is) = Every (λ j. j ≡ i → ⊥) is × Distinct is

@@ -11,7 +11,7 @@ use Rattle.method.specs.words.Layout.{header-of, contracts-start, table-
 use Rattle.method.specs.words.Tables.{Opening, opened, refused, opening-state}
 use Rattle.method.specs.computed.Opening.{open-line}
 
--- ---- the header (refusal 3: "a count, time or share in the header out of range"; the rest of refusal 1)
+-- ---- the header: refusal 3, and the rest of refusal 1
 unfoldable pub header-good : Header → Bool
 header-good h =
     in-range 1 32 (h .contracts) && in-range 1 16 (h .keys) && in-range 1 172_800 (h .end .0) && in-range 1 3_600 (h .hold .0)
@@ -20,7 +20,7 @@ header-good h =
 unfoldable pub laid-out : Header → ℕ → Bool
 laid-out h size = eqb (h .keysat) 40 && eqb (h .contractsat) (contracts-start h) && eqb size (table-length h)
 
--- ---- the keys (refusal 4): "days 1..3,650, strictly rising; rate 0..1,000,000 a year"
+-- ---- the keys: refusal 4
 unfoldable pub key-good : ℕ → Key → Bool
 key-good before k = in-range 1 3_650 (k .days) && ltb before (k .days) && leb (k .rate .0) 1_000_000
 

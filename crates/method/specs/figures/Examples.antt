@@ -1,4 +1,4 @@
--- Where the paper admits two readings: the examples A1 to A5, A8, A10 to A14 (refusals and printing), B1 to B9 and B11 (holds and shifts),
+-- Where the rules admitted two readings: the examples A1 to A5, A8, A10 to A14 (refusals and printing), B1 to B9 and B11 (holds and shifts),
 -- D8 and D11's empty quote (ticks and repeated quotes) of docs/DECISIONS.md, with a few more and the questions: one table under one claim. A
 -- shift line is its second, its side (0 up, 1 down) and its id. Assumes nothing.
 use mathlib.Core.List.{List, [], _∷_, _++_, map}
@@ -210,7 +210,7 @@ examples =
     -- A quote that is late after a tick is taken where the tick is left out, and ends the pressure.
     ∷ example (ups (70 ∷ [])) 1_000 16 one (bid 10 7 1_046 (tick 70 (bid 50 7 1_000 (empty 90 7 []))))
     ∷ example [] 1_000 16 one (bid 10 7 1_046 (bid 50 7 1_000 (empty 90 7 [])))
-    -- "A bid of 1045 at 10 wouldn't press: its distance is 5, not under 5."
+    -- a bid of 1045 at 10 stands 5 from the limit, which is not near
     ∷ example [] 1_000 2 one (bid 10 7 1_045 (tick 1_000 []))
     -- B11. A frozen line: `70 D 7`, its lower limit 1; ask 0 starts no hold; it still presses up, `150 U 7`; at the end `7 1 71 -14 74`.
     ∷ figure (map pos (1 ∷ 70 ∷ 1 ∷ 7 ∷ 0 ∷ 0 ∷ 1 ∷ 150 ∷ 0 ∷ 7 ∷ 0 ∷ 0 ∷ 4 ∷ 7 ∷ 1 ∷ 71 ∷ []) ++ (negsuc 13 ∷ pos 74 ∷ []))

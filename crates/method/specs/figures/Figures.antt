@@ -1,4 +1,4 @@
--- "Figures on each side of the line" (paper 01): every starred figure, in one table under one claim. Assumes nothing.
+-- The starred figures (METHOD 25), in one table under one claim. Assumes nothing.
 use mathlib.Core.List.{List, [], _∷_, map}
 use mathlib.Core.Path.{_≡_, refl}
 use Prim.Native.Nat.{ℕ}
@@ -25,11 +25,11 @@ use Rattle.method.specs.computed.Program.{session-rows, rows-after, prog
 use Rattle.method.specs.figures.Inputs.{sample, tick, empty, bid, contract, line, raw-lower, of-line, bounds, both-limits, shifted-down, Figure, figure}
 
 -- ---- inputs
--- "Keys (30; 100,000), (90; 70,001)"
+-- days and rate of two keys: 30 and 100,000; 90 and 70,001
 abbrev two-keys : List Key
 two-keys = record { days = 30; rate = millionths 100_000 } ∷ record { days = 90; rate = millionths 70_001 } ∷ []
 
--- "y 100,000,000" is rate 100,000 at 365 days; rate, spot and least price give the half-width 100, or 30
+-- the exponent 100,000,000 is rate 100,000 at 365 days; rate, spot and least price give the half-width 100, or 30
 abbrev thousand : ℕ → Contract
 thousand width = contract (pos 1_000) (pos 1) 100_000 width 0
 
@@ -39,33 +39,31 @@ minus-ten = contract (negsuc 9) (pos 1_000) 100_000 500_000 1
 abbrev thirty : Contract
 thirty = contract (pos 30) (pos 1) 1_000_000 900_000 0
 
--- ---- the table: what the paper prints, and what the definitions give
+-- ---- the table: the figure, and what the definitions give
 abbrev pub starred : List Figure
 starred =
-    -- "Keys (30; 100,000), (90; 70,001): days 31 gives 99,500, days 30 gives 100,000, days 10 gives 100,000, days 91 gives 70,001."
+    -- METHOD 25.1: the rate between two keys, at a key, before the first, past the last
     figure (map pos (99_500 ∷ 100_000 ∷ 100_000 ∷ 70_001 ∷ [])) (map pos (map (rate-at two-keys) (31 ∷ 30 ∷ 10 ∷ 91 ∷ [])))
-    -- "Rate 92,500, 45 days: y = 11,404,109."
+    -- 25.2: an exponent
     ∷ figure (pos 11_404_109 ∷ []) (pos (exponent 92_500 45) ∷ [])
-    -- "Rate 100,000, 365 days: y = 100,000,000, up 1,105,170,916, down 904,837,419."
+    -- 25.3: an exponent and its factors
     ∷ figure (map pos (100_000_000 ∷ 1_105_170_916 ∷ 904_837_419 ∷ []))
     (map pos (exponent 100_000 365 ∷ up-factor 100_000_000 ∷ down-factor 100_000_000 ∷ []))
-    -- "y = 0: both 1,000,000,000."
+    -- 25.4: no exponent, both factors one
     ∷ figure (map pos (1_000_000_000 ∷ 1_000_000_000 ∷ [])) (map pos (up-factor 0 ∷ down-factor 0 ∷ []))
-    -- "P 1,000, half-width 100, y 100,000,000: interest bounds 1,216 and 814. Width share 500,000: limits 1,100 and 900."
+    -- 25.5: interest bounds and limits
     ∷ figure (map pos (1_216 ∷ 814 ∷ [])) (of-line bounds (line 100_000 (thousand 500_000)))
     ∷ figure (map pos (1_100 ∷ 900 ∷ [])) (of-line both-limits (line 100_000 (thousand 500_000)))
-    -- "Width share 1,000,000: lower 799, refused 9."
+    -- 25.6: a lower limit beyond its bound, refused
     ∷ figure (pos 799 ∷ []) (raw-lower 100_000 (thousand 1_000_000))
     ∷ figure (pos 9 ∷ []) (of-line both-limits (line 100_000 (thousand 1_000_000)))
-    -- "P -10, half-width 100, same y, negatives permitted: bounds 82 and -122; share 500,000 gives 41 and -61."
+    -- 25.7: a negative price, for which the factors change places
     ∷ figure (pos 82 ∷ negsuc 121 ∷ []) (of-line bounds (line 100_000 minus-ten))
     ∷ figure (pos 41 ∷ negsuc 60 ∷ []) (of-line both-limits (line 100_000 minus-ten))
-    -- "P 30, half-width 30, y 0, width share 900,000, shift share 500,000: limits 57 and 3, half-move 7. One down shift: centre 23, half-width
-    -- 37, lower bound -14, lower limit 1, frozen."
+    -- 25.8: a lower limit that meets the floor in a shift
     ∷ figure (map pos (57 ∷ 3 ∷ [])) (of-line both-limits (line 0 thirty))
     ∷ figure (pos 7 ∷ pos 23 ∷ pos 37 ∷ negsuc 13 ∷ pos 1 ∷ pos 1 ∷ []) (of-line shifted-down (line 0 thirty))
-    -- The program. "Events: 10 bid 1046; 69 tick; 70 tick; 100 bid 1093; 200 empty; 210 bid 1150; 1000 tick. Output, whole": 70 U 7; 160 U 7;
-    -- 7 950 1150 900 1200.
+    -- 25.11: a whole session
     ∷ figure
     (map pos (1 ∷ 70 ∷ 0 ∷ 7 ∷ 0 ∷ 0 ∷ 1 ∷ 160 ∷ 0 ∷ 7 ∷ 0 ∷ 0 ∷ 4 ∷ 7 ∷ 950 ∷ 1_150 ∷ 900 ∷ 1_200 ∷ []))
     (numbers-of

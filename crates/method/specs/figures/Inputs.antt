@@ -18,7 +18,7 @@ abbrev pub bytes : List ℕ → List ℕ
 bytes [] = []
 bytes (n ∷ ns) = n % 256 ∷ n / 256 % 256 ∷ n / 65_536 % 256 ∷ n / 16_777_216 ∷ bytes ns
 
--- ---- the sample table of paper 01: hold 60, near share 50,000, shift share 500,000
+-- ---- the sample table (METHOD 25.11): hold 60, near share 50,000, shift share 500,000
 -- a contract before the fields that follow it, with P and spot 1,000
 abbrev pub sample-fields : ℕ → ℕ → ℕ → List ℕ → List ℕ
 sample-fields width id flags more = 1_000 ∷ 1_000 ∷ 1 ∷ 100_000 ∷ 200_000 ∷ 300_000 ∷ width ∷ 90 ∷ id ∷ flags ∷ more

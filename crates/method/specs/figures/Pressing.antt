@@ -6,7 +6,7 @@ use Rattle.method.specs.words.Types.{Up, Down, Limits, Given, Since, ste
 use Rattle.method.specs.words.Pressure.{close}
 use Rattle.method.specs.computed.Judge.{judged}
 
--- ---- figures: limits 950 and 1050, near share 50,000. A bid of 1046 presses, one of 1045 does not: "its distance is 5, not under 5."
+-- The corridor is 100 wide, and near is less than 5: a bid of 1046 presses, one of 1045 does not.
 abbrev figure : Limits
 figure = record { upper = steps (pos 1_050); lower = steps (pos 950); frozen = false }
 

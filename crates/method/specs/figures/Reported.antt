@@ -9,7 +9,7 @@ use Rattle.method.specs.told.Refusals.{event-number, Said, report-said}
 use Rattle.method.specs.told.Questions.{known, line-of}
 use Rattle.method.specs.told.Report.{market-bounds, interest-bounds, hold-report, line-report, report}
 
--- ---- a figure: a state written out by hand, as the sample table of paper 01 stands after "10 bid 1046; 69 tick"
+-- the sample table's state after a bid of 1046 at 10 and a tick at 69, written out by hand
 abbrev sample-line : Line
 sample-line =
     record {

@@ -120,7 +120,7 @@ ShiftsLead =
 abbrev pub FrozenTells : Type 0
 FrozenTells = EachLine (λ u d o l. (l .limits .frozen ≡ true) ↔ FloorMet o l)
 
--- ".. becomes 1 and is frozen" (paper 01): what is frozen at a moment is so at any later one, at one step. (rule3-frozen-for-good)
+-- What is frozen at a moment is so at any later one, at one step. (rule3-frozen-for-good)
 abbrev pub FrozenForGood : Type 0
 FrozenForGood =
     (o s r : State) (cs ds : List ShiftLine) → Opens o → Moment o cs s → Moment s ds r

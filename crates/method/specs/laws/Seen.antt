@@ -38,8 +38,8 @@ presses-at side s place = presses side (s .near) (getD (s .lines) place blank)
 abbrev pub HoldsExact : State → Type 0
 HoldsExact s = (side : Side) (place : ℕ) → (hold-at side s place ≡ Idle → ⊥) ↔ ((0 < s .left) × (presses-at side s place ≡ true))
 
--- The hold that called for shift line c, in the state just before it. "It falls due at start + hold seconds"; "earliest first; at one
--- second, up before down, then the lowest line": all holds wait equally long, so that what falls due earlier started earlier.
+-- The hold that called for shift line c, in the state just before it: hold seconds old at the line's second, and first by METHOD 15.2. All holds
+-- wait equally long, so that the one due earliest started earliest.
 pub record Caller (s : State) (c : ShiftLine) : Type 0 where
   pub start : Seconds
   pub place : ℕ

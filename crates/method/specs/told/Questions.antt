@@ -6,12 +6,12 @@ use lib.Dec.{eqb}
 use lib.Signed.{ltZ}
 use Rattle.method.specs.words.Types.{Steps, Limits, Line, EventReason, LimitsAnswer, PlaceAnswer, Below, Inside, Above, State, blank, demand}
 
--- ---- ids (refusal 6: "id 0 or used on an earlier line")
+-- whether an id is a contract's
 unfoldable pub known : ℕ → List Line → Bool
 known id [] = false
 known id (l ∷ ls) = eqb (l .terms .id) id || known id ls
 
--- ---- questions: they "know only 13", serve nothing and know no time
+-- the line of an id
 unfoldable pub line-of : ℕ → List Line → Line
 line-of id [] = blank
 line-of id (l ∷ ls) = cond (eqb (l .terms .id) id) l (line-of id ls)
@@ -20,7 +20,7 @@ unfoldable pub limits : ℕ → State → LimitsAnswer
 limits id s =
     demand (known id (s .lines)) (LimitsAnswer.Refused EventReason.UnknownId) (LimitsAnswer.Standing (line-of id (s .lines) .limits))
 
--- "below, inside (both limits count as inside) or above the corridor"
+-- a price on a limit is inside (METHOD 21.2)
 unfoldable pub placed : Limits → Steps → PlaceAnswer
 placed k p = cond (ltZ (p .0) (k .lower .0)) Below (cond (ltZ (k .upper .0) (p .0)) Above Inside)
 

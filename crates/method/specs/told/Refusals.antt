@@ -28,12 +28,11 @@ pub record Said : Type 0 where
   pub number : ℕ
   pub values : List ℤ
 
--- "number, line"
+-- a table's refusal has its line
 unfoldable pub table-said : TableAnswer → Said
 table-said TableAnswer.Opened = record { number = 0; values = [] }
 table-said (TableAnswer.Refused why line) = record { number = table-number why; values = pos line ∷ [] }
 
--- "number"
 unfoldable pub event-said : EventAnswer → Said
 event-said EventAnswer.Accepted = record { number = 0; values = [] }
 event-said (EventAnswer.Refused why) = record { number = event-number why; values = [] }

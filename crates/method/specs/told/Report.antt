@@ -16,7 +16,7 @@ market-bounds centre half = bounds-by (λ side. market-bound side centre half)
 unfoldable pub interest-bounds : Line → BothBounds
 interest-bounds l = bounds-by (λ side. bound side (l .terms) (l .market))
 
--- "It falls due at start + hold seconds." It is reported also where that is not before session end.
+-- with the second at which it is due, also where that is not before session end
 unfoldable pub hold-report : Seconds → Hold → HoldReport
 hold-report wait Idle = NoHold
 hold-report wait (Since start) = Holding (record { start = start; due = seconds (start .0 + wait .0) })

@@ -7,8 +7,7 @@ use Rattle.method.specs.words.Bounds.{bound}
 use Rattle.method.specs.words.Sessions.{Answer, accepted, refused as turned-away}
 use Rattle.method.specs.told.Refusals.{table-number, event-number}
 
--- ---- the rows
--- "prints one line a shift (second, U or D, id) .. A refused event prints "R" and its number"
+-- ---- the rows of an answer, and of all answers: one for each shift, and one for each refused event (METHOD 22.4)
 unfoldable pub rows-of : Answer → List Row
 rows-of (accepted cs) = map Row.Shift cs
 rows-of (turned-away why) = Row.RefusedEvent why ∷ []
@@ -17,7 +16,7 @@ unfoldable pub rows-of-all : List Answer → List Row
 rows-of-all [] = []
 rows-of-all (a ∷ rs) = rows-of a ++ rows-of-all rs
 
--- "at the end one line a contract: id, lower limit, upper limit, lower and upper interest bound. Contracts come in table order"
+-- the closing row of a contract (METHOD 22.5)
 unfoldable pub closing-row : Line → Row
 closing-row l =
     Row.Closed
@@ -29,7 +28,7 @@ closing-row l =
       upperbound = steps (bound Up (l .terms) (l .market));
     })
 
--- ---- a row in six numbers: its kind, and its values in the printed order, with 0 in the places that it leaves free
+-- ---- a row in six numbers: its kind, and its values in the printed order, with 0 in the places that it leaves free (METHOD 22.8)
 abbrev pub side-number : Side → ℕ
 side-number Up = 0
 side-number Down = 1

@@ -8,7 +8,6 @@ use Rattle.method.specs.words.Types.{Price, Absent, Given, Book, Line, s
 use Rattle.method.specs.words.Wire.{word, signed, bit}
 use Rattle.method.specs.words.Events.{IsQuote}
 
--- ---- the book
 -- the standing price that a price field says: there where its flag says present, and else absent
 pub record PriceSaid (present : Bool) (z : ℤ) (p : Price) : Type 0 where
   pub given : present ≡ true → p ≡ Given (steps z)
@@ -23,8 +22,8 @@ pub record Quotes (b : List ℕ) (l : Line) : Type 0 where
   pub quote : IsQuote b
   pub id : l .terms .id ≡ word b 4
 
--- From the line l before the accepted event b to the same line n after it: "a quote .. replaces both standing prices of its contract". A tick,
--- or a quote of another line, leaves the book as it was.
+-- From the line l before the accepted event b to the same line n after it: a quote of the line sets both prices, and a tick or a quote of
+-- another line neither (METHOD 12.4, 12.6).
 pub record BookLife (b : List ℕ) (l n : Line) : Type 0 where
   pub replaced : Quotes b l → BookSaid b (n .book)
   pub stays : (Quotes b l → ⊥) → n .book ≡ l .book

@@ -6,22 +6,21 @@ use lib.IntN.{ℤ, pos, _+ℤ_, _-ℤ_, _*ℤ_}
 use Rattle.numbers.specs.Rounding.{floor, ceiling}
 use Rattle.method.specs.words.Types.{Steps, Side, Up, Down, Terms, Market}
 
--- "Market bounds of a level: centre plus and minus its half-width."
+-- of a level, by its half-width (METHOD 7.4)
 abbrev pub market-bound : Side → Steps → Steps → ℤ
 market-bound Up centre half = centre .0 +ℤ half .0
 market-bound Down centre half = centre .0 -ℤ half .0
 
--- "If P is 0 or more: upper .. up .., lower .. down ... If P is negative, the factors change places. The sign of P holds for the whole
--- session."
+-- Which factor a side takes hangs on the sign of P at opening, and on nothing later (METHOD 8.2, 8.3, 8.4).
 unfoldable pub factor : Side → Terms → ℕ
 factor Up t = cond (t .below) (t .factors .down .0) (t .factors .up .0)
 factor Down t = cond (t .below) (t .factors .up .0) (t .factors .down .0)
 
--- "upper = ceiling(upper market bound x up / 10^9), lower = floor(lower market bound x down / 10^9)"
+-- a bound z times the factor f, rounded outward (METHOD 8.5)
 unfoldable pub interest : Side → ℕ → ℤ → ℤ
 interest Up f z = ceiling (z *ℤ pos f) 1_000_000_000
 interest Down f z = floor (z *ℤ pos f) 1_000_000_000
 
--- "Interest bounds (after formula 31), from the level 1 market bounds."
+-- out of the level 1 market bound of the side (METHOD 8.1)
 unfoldable pub bound : Side → Terms → Market → ℤ
 bound side t m = interest side (factor side t) (market-bound side (m .centre) (m .half1))

@@ -12,8 +12,8 @@ use Rattle.method.specs.words.Wire.{word, signed, bit}
 use Rattle.method.specs.words.Ranges.{Every}
 use Rattle.method.specs.words.Tables.{id}
 
--- ---- a byte string that is an event
--- "An absent price is 0", a present one lies in ±2,000,000,000
+-- ---- a byte string that is an event (METHOD 12)
+-- a price field: 0 where its flag does not say present
 pub record PriceField (present : Bool) (z : ℤ) : Type 0 where
   pub in-range : present ≡ true → Within 2_000_000_000 z
   pub absent : present ≡ false → z ≡ pos 0
@@ -49,9 +49,9 @@ pub record IsCrossed (b : List ℕ) : Type 0 where
   pub ask : bit 1 (word b 8) ≡ true
   pub above : (signed (word b 16)) <ℤ (signed (word b 12))
 
--- ---- the answer to an event in state s: one clause for each way, and together they leave exactly one answer
+-- ---- the answer to an event in state s: one clause for each way, and together they leave exactly one answer (METHOD 20)
 pub data EventAnswered (s : State) (b : List ℕ) : EventAnswer → Type 0 where
-  -- 12
+  -- refusal 12
   no-event : (IsEvent b → ⊥) → EventAnswered s b (EventAnswer.Refused EventReason.Malformed)
   -- 10
   after-end : IsEvent b → s .end .0 < word b 0 → EventAnswered s b (EventAnswer.Refused EventReason.AfterEnd)

@@ -5,9 +5,7 @@ use lib.IntN.{pos}
 use Rattle.method.specs.words.Types.{Header, Key, Contract, steps, millionths, seconds}
 use Rattle.method.specs.words.Wire.{word, signed}
 
--- ---- the three kinds of record
--- "Header, 40 bytes, byte offsets: 0 edition ..; 4 contract count ..; 8 offset of contracts; 12 key count ..; 16 offset of keys; 20 session
--- end ..; 24 hold seconds ..; 28 most shifts ..; 32 near share ..; 36 shift share .."
+-- the header, from byte 0 (METHOD 3.1)
 unfoldable pub header-of : List ℕ → Header
 header-of b =
     record {
@@ -23,12 +21,11 @@ header-of b =
       shift = millionths (word b 36);
     }
 
--- "Key, 8 bytes: days ..; rate .. a year"
+-- the key that begins at a byte (METHOD 3.2)
 unfoldable pub key-at : List ℕ → ℕ → Key
 key-at b at = record { days = word b at; rate = millionths (word b (at + 4)) }
 
--- "Contract, 40 bytes: settlement price P (signed ..); spot (signed ..); least price ..; rates of levels 1, 2, 3 ..; width share ..; days
--- left ..; id ..; flags."
+-- the contract that begins at a byte (METHOD 3.3)
 unfoldable pub contract-at : List ℕ → ℕ → Contract
 contract-at b at =
     record {
@@ -44,7 +41,7 @@ contract-at b at =
       flags = word b (at + 36);
     }
 
--- "Keys start at 40, contracts right after the keys, and nothing follows."
+-- The keys begin at byte 40; the contracts begin where the keys end, and with them the table ends.
 abbrev pub contracts-start : Header → ℕ
 contracts-start h = 40 + 8 * h .keys
 

@@ -10,21 +10,20 @@ use Rattle.method.specs.words.Ranges.{permits-negative}
 use Rattle.method.specs.words.Growth.{rate-at, exponent, factors-of}
 use Rattle.method.specs.words.Bounds.{bound}
 
--- ---- the numbers
--- "Normal price (after formula 30): the larger of |spot| and least price."
+-- METHOD 7.1
 unfoldable pub normal-price : Contract → ℤ
 normal-price c = let size : ℤ = pos (natAbs (c .spot .0)) in cond (ltZ size (c .least .0)) (c .least .0) size
 
--- "Half-width of each level: ceiling(normal price x rate / 1,000,000)."
+-- METHOD 7.2
 unfoldable pub half-width : Contract → Millionths → Steps
 half-width c rate = steps (ceiling (normal-price c *ℤ pos (rate .0)) 1_000_000)
 
--- "Centre = P."
+-- the centre is P, and each level has its half-width (METHOD 7.2, 7.3)
 unfoldable pub market-of : Contract → Market
 market-of c =
     record { centre = c .price; half1 = half-width c (c .rate1); half2 = half-width c (c .rate2); half3 = half-width c (c .rate3) }
 
--- "Half-move = floor(shift share x level 1 half-width / 2,000,000)"
+-- METHOD 10.1
 unfoldable pub half-move : Millionths → Steps → Steps
 half-move shift half1 = steps (floor (pos (shift .0) *ℤ half1 .0) 2_000_000)
 
@@ -39,7 +38,7 @@ terms-of shift y c =
       factors = factors-of y;
     }
 
--- "Corridor (35, 36): half = floor(width share x (upper interest - lower interest) / 2,000,000); limits P + half and P - half"
+-- the corridor before the floor: as far from P on both sides (METHOD 9.1, 9.2)
 unfoldable pub corridor-half : Millionths → Terms → Market → ℤ
 corridor-half width t m = floor (pos (width .0) *ℤ (bound Up t m -ℤ bound Down t m)) 2_000_000
 
@@ -51,12 +50,12 @@ corridor width t m =
       frozen = false;
     }
 
--- "Then, without flag bit 0, a lower limit below 1 becomes 1 and is frozen (71)."
+-- the floor of one step, where negative prices are not permitted (METHOD 9.4)
 unfoldable pub floored : Bool → Limits → Limits
 floored true k = k
 floored false k = cond (ltZ (k .lower .0) (pos 1)) (record { upper = k .upper; lower = steps (pos 1); frozen = true }) k
 
--- "Each contract starts with an empty book"; there is no pressure yet, and so no hold
+-- with an empty book there is no pressure yet, and so no hold (METHOD 9.5)
 unfoldable pub fresh-line : Terms → Market → Limits → Line
 fresh-line t m k =
     record {
@@ -67,6 +66,6 @@ fresh-line t m k =
       holds = record { up = Idle; down = Idle };
     }
 
--- ---- a contract, after the lines before it: "each contract line in turn with 5 to 9"
+-- of a contract, by the table's keys
 abbrev pub exponent-of : List Key → Contract → ℕ
 exponent-of keys c = exponent (rate-at keys (c .days)) (c .days)

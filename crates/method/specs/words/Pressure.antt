@@ -5,12 +5,12 @@ use lib.Signed.{ltZ}
 use Rattle.method.specs.words.Types.{Millionths, Side, Up, Down, Limits, Price, Absent, Given, Book, Hold, Holds, Line}
 use Rattle.method.specs.words.Ranges.{under-watch}
 
--- a distance x 1,000,000 < near share x (upper - lower)
+-- a distance from a limit that is less than the near share of the corridor's width (METHOD 13.4)
 abbrev pub near-by : Millionths → Limits → ℤ → Bool
 near-by near k distance = ltZ (distance *ℤ pos 1_000_000) (pos (near .0) *ℤ (k .upper .0 -ℤ k .lower .0))
 
--- "up when it has a bid and (upper limit - bid) ..; down when it has an ask and (ask - lower) .., unless its lower limit is frozen.
--- A bid beyond the limit presses."
+-- A bid presses on the upper limit, an ask on the lower one unless that is frozen. Beyond the limit the distance is negative, and so less.
+-- (METHOD 13.2, 13.3, 13.5)
 unfoldable pub close : Side → Millionths → Limits → Price → Bool
 close side near k Absent = false
 close Up near k (Given bid) = near-by near k (k .upper .0 -ℤ bid .0)
@@ -21,7 +21,7 @@ abbrev pub price : Side → Book → Price
 price Up b = b .bid
 price Down b = b .ask
 
--- "A watched contract presses .."
+-- only under watch (METHOD 13.1)
 unfoldable pub presses : Side → Millionths → Line → Bool
 presses side near l = under-watch (l .terms .flags) && close side near (l .limits) (price side (l .book))
 

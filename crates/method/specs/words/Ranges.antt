@@ -9,15 +9,14 @@ use Rattle.numbers.specs.Ranges.{Within, Between, Span}
 use Rattle.method.specs.words.Types.{Header, Key, Contract}
 use Rattle.method.specs.words.Wire.{bit}
 
--- ---- the flags
--- "Bit 0 of the flags permits negative prices, bit 1 puts the contract under watch"
+-- ---- the two flags of a contract (METHOD 3.3)
 abbrev pub permits-negative : ℕ → Bool
 permits-negative flags = bit 0 flags
 
 abbrev pub under-watch : ℕ → Bool
 under-watch flags = bit 1 flags
 
--- ---- the header
+-- ---- the header (METHOD 3.1)
 pub record HeaderIn (h : Header) : Type 0 where
   pub contracts : Between 1 32 (h .contracts)
   pub keys : Between 1 16 (h .keys)
@@ -27,7 +26,7 @@ pub record HeaderIn (h : Header) : Type 0 where
   pub near : Between 1 500_000 (h .near .0)
   pub shift : Between 1 1_000_000 (h .shift .0)
 
--- ---- keys
+-- ---- keys, each above the one before it (METHOD 3.2)
 pub record KeyIn (before : ℕ) (k : Key) : Type 0 where
   pub days : Between 1 3_650 (k .days)
   pub rising : before < k .days
@@ -37,7 +36,7 @@ unfoldable pub KeysIn : ℕ → List Key → Type 0
 KeysIn before [] = Unit {0}
 KeysIn before (k ∷ keys) = KeyIn before k × KeysIn (k .days) keys
 
--- ---- a contract
+-- ---- a contract, its id aside (METHOD 3.3)
 pub record ContractIn (c : Contract) : Type 0 where
   pub price : Within 100_000_000 (c .price .0)
   pub positive : permits-negative (c .flags) ≡ false → pos 1 ≤ℤ (c .price .0)
@@ -52,7 +51,7 @@ pub record ContractIn (c : Contract) : Type 0 where
   pub days : c .days ≤ 3_650
   pub flags : c .flags < 4
 
--- ---- the whole table
+-- ---- of each element of a list
 unfoldable pub Every : {A : Type 0} → (A → Type 0) → List A → Type 0
 Every P [] = Unit {0}
 Every P (x ∷ xs) = P x × Every P xs

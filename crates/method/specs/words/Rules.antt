@@ -46,64 +46,62 @@ pub data Moment (o : State) : List ShiftLine → State → Type 0 where
       {cs : List ShiftLine} {s n : State} → Moment o cs s → (b : List ℕ) → EventAnswered s b EventAnswer.Accepted → AppliedTo s b n → Moment o cs n
 
 -- ==== RULE 1
--- ---- "Every table .., however damaged, gets an answer."
--- Every list of bytes opens a state or is refused with a number and a line: exactly one of the answers of `TableAnswered`. (rule1-every-table)
+-- Every list of bytes opens a state or is refused with a number and a line: exactly one of the answers of `TableAnswered`. Which lines an accepted
+-- table opens is said in its clause `all-good`. (METHOD 24.1, 24.6; rule1-every-table)
 abbrev pub EveryTable : Type 0
 EveryTable = (b : List ℕ) → ExactlyOne (TableAnswered b)
 
--- ---- "every event, however damaged, gets an answer."
--- Every byte string, in every state, is accepted or refused with a number: exactly one of the answers of `EventAnswered`. (rule1-every-event)
+-- Every byte string, in every state, is accepted or refused with a number: exactly one of the answers of `EventAnswered`.
+-- (METHOD 24.2; rule1-every-event)
 abbrev pub EveryEvent : Type 0
 EveryEvent = (s : State) (b : List ℕ) → ExactlyOne (EventAnswered s b)
 
--- ---- "A refused table opens no session." (rule1-refused-table)
+-- No refused table opens a state. (METHOD 24.3; rule1-refused-table)
 abbrev pub RefusedOpensNothing : Type 0
 RefusedOpensNothing = (b : List ℕ) (why : TableReason) (line : ℕ) → TableAnswered b (refused why line) → (s : State) → TableAnswered b (opened s) → ⊥
 
--- ---- "A refused event leaves the session, its clock included, as it stood"
--- "10 to 14 change nothing, and serve nothing" (paper 01), from any state and after any events. That no input bytes are written needs no
--- statement here, where a byte string is a value; the code takes its input to read only. (rule1-refused-event)
+-- A refused event can be struck out, from any state and after any events. That no input bytes are written needs no statement here, where a byte
+-- string is a value; the code takes its input to read only. (METHOD 24.4, 24.5; rule1-refused-event)
 abbrev pub RefusedChangesNothing : Type 0
 RefusedChangesNothing =
     (o : State) (past : List (List ℕ)) (told : List Answer) (m : State) (b : List ℕ) (why : EventReason) → AnswersInWords o past told m
     → EventAnswered m b (EventAnswer.Refused why) → Struck o past told m b why
 
--- ---- one session
--- Opening limits and bounds: `all-good` of `TableAnswered` says which lines an accepted table opens. Holds and shifts: whatever byte strings
--- follow, the words of `AnswersInWords` leave exactly one list of answers and one state after them, the whole of it. (rule2-every-session)
+-- ==== RULE 2
+-- From a state o of which `From o` holds, whatever byte strings follow, the words of `AnswersInWords` leave exactly one list of answers and one
+-- state after them, the whole of it. It is proved of the states that a table opens, and of any that a host may have kept of a session. What
+-- those words come to is in laws. (METHOD 24.7; rule2-every-session)
 abbrev pub EverySession : (State → Type 0) → Type 0
 EverySession From = (o : State) → From o → (bs : List (List ℕ)) → ExactlyOne (λ (r : List Answer × State). AnswersInWords o bs (r .0) (r .1))
 
--- ==== RULE 3: "After any list of events, refused ones among them, from an accepted table:"
+-- ==== RULE 3
 -- The shifts counted are those of the answers, so that they are the shifts that rule 2 calls for.
--- ---- "each contract's centre is the opening one plus its half-move for every upward shift the list calls for by rule 2's definition, less its
--- half-move for every downward one" (rule3-centres)
+
+-- the centre, a half-move higher for each upward shift and lower for each downward one (METHOD 24.19; rule3-centres)
 abbrev pub Centres : Type 0
 Centres = EachLine Centre
 
--- ---- "each half-width has grown by the half-move for every shift" (rule3-half-widths)
+-- each half-width, wider by a half-move for each shift (METHOD 24.20; rule3-half-widths)
 abbrev pub HalfWidthsGrow : Type 0
 HalfWidthsGrow = EachLine (λ u d. HalfWidths (u + d))
 
--- ---- "the shifts never exceed the table's number"
--- and those made and those left are that number (rule3-shifts)
+-- no more shifts than the table's number, and those made and those left are that number (METHOD 24.21; rule3-shifts)
 abbrev pub ShiftsWithin : Type 0
 ShiftsWithin =
     AfterAny Opens (λ o opens bs rs s. let made : ℕ = count Up (joined rs) + count Down (joined rs) in
     let most : ℕ = header-of (opens .table) .most in
     (made ≤ most) × (made + s .left ≡ most))
 
--- ---- "no limit ever moves inward"
--- from any moment of a session to any later one, also between the shifts of an event (rule3-never-inward)
+-- no limit further inside, from any moment of a session to any later one, also between the shifts of an event (METHOD 24.22; rule3-never-inward)
 abbrev pub NeverInward : Type 0
 NeverInward =
     (o s r : State) (cs ds : List ShiftLine) → Opens o → Moment o cs s → Moment s ds r
     → Each Outward (s .lines) (r .lines)
 
--- ---- "the upper limit stands exactly as far inside the upper interest bound as at opening" (rule3-upper)
+-- the upper limit, as far inside its bound as at opening (METHOD 24.23; rule3-upper)
 abbrev pub UpperInside : Type 0
 UpperInside = EachLine (λ u d o l. margin Up l ≡ margin Up o)
 
--- ---- "the lower limit does too until it meets the floor of one step; from then on it is at least that far inside" (rule3-lower)
+-- the lower limit, likewise until the floor acts on it, and then at least so far (METHOD 24.24; rule3-lower)
 abbrev pub LowerInside : Type 0
 LowerInside = EachLine (λ u d. Lower)

@@ -12,7 +12,8 @@ use Rattle.method.specs.words.Holds.{First, Done, Life}
 use Rattle.method.specs.words.Books.{BookLife}
 use Rattle.method.specs.words.Shifts.{Each, LineShifted}
 
--- ---- one event, from line l to line n: the book of the line that it quotes is replaced, and so its pressure may start or end
+-- ---- one event, from line l to line n
+-- the book of the line that it quotes is replaced, and so its pressure may start or end (METHOD 14.4)
 pub record LineTold (near : Millionths) (left : ℕ) (b : List ℕ) (l n : Line) : Type 0 where
   pub terms : n .terms ≡ l .terms
   pub market : n .market ≡ l .market
@@ -27,27 +28,27 @@ pub record SameTable (s n : State) : Type 0 where
   pub hold : n .hold ≡ s .hold
   pub near : n .near ≡ s .near
 
--- "A shift acts on all lines of the table", each in its place; one of the shifts that were left is made. The clock waits for the event.
+-- A shift: every line of the table, in its place, and one less of the shifts that are left. The clock waits for the event. (METHOD 16.6, 16.8)
 pub record ShiftedTo (s : State) (c : ShiftLine) (n : State) : Type 0 where
   pub lines : Each (LineShifted (s .near) (n .left) c) (s .lines) (n .lines)
   pub left : n .left + 1 ≡ s .left
   pub clock : n .clock ≡ s .clock
   pub table : SameTable s n
 
--- "Then the event is applied and the clock set to t."
+-- an event that is applied (METHOD 15.5)
 pub record AppliedTo (s : State) (b : List ℕ) (n : State) : Type 0 where
   pub lines : Each (LineTold (s .near) (s .left) b) (s .lines) (n .lines)
   pub left : n .left ≡ s .left
   pub clock : n .clock ≡ seconds (word b 0)
   pub table : SameTable s n
 
--- "first every hold due at or before t is served": one shift after another, each of the hold that goes first in the state before it. cs are
--- their shift lines, n is the state after them.
+-- Holds served up to t: one shift after another, each of the hold that goes first in the state before it. cs are their shift lines, n is the
+-- state after them. (METHOD 15.1, 15.4)
 pub data Serves (t : Seconds) : State → List ShiftLine → State → Type 0 where
   nothing : {s : State} → Serves t s [] s
   first : {s m n : State} {c : ShiftLine} {cs : List ShiftLine} → First t s c → ShiftedTo s c m → Serves t m cs n → Serves t s (c ∷ cs) n
 
--- The event b is accepted in state s, is answered with the shift lines cs, and leaves state n.
+-- the event b is accepted in state s, is answered with the shift lines cs, and leaves state n (METHOD 19.3)
 pub record Follows (s : State) (b : List ℕ) (cs : List ShiftLine) (n : State) : Type 0 where
   pub taken : EventAnswered s b EventAnswer.Accepted
   pub between : State
@@ -55,13 +56,13 @@ pub record Follows (s : State) (b : List ℕ) (cs : List ShiftLine) (n : State) 
   pub all-served : Done (seconds (word b 0)) between
   pub applied : AppliedTo between b n
 
--- ---- an answer, and the state that it leaves
--- "An accepted event answers with 0 to 16 shift lines"
+-- ---- a session
+-- the answer to a byte string (METHOD 19.1, 19.2)
 pub data Answer : Type 0 where
   accepted : List ShiftLine → Answer
   refused : EventReason → Answer
 
--- ---- a session: from state s the byte strings bs are answered with rs, and leave state n. "10 to 14 change nothing, and serve nothing."
+-- from state s the byte strings bs are answered with rs, and leave state n; a refused one leaves the state as it was (METHOD 19.3, 19.4)
 pub data AnswersInWords : State → List (List ℕ) → List Answer → State → Type 0 where
   no-more : {s : State} → AnswersInWords s [] [] s
   taken :

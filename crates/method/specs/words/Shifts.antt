@@ -11,7 +11,7 @@ use Rattle.method.specs.words.Bounds.{bound}
 use Rattle.method.specs.words.Pressure.{presses, hold-of}
 use Rattle.method.specs.words.Holds.{Life, remaining}
 
--- ---- a relation between two lists of lines, line by line
+-- ---- a relation between two lists of lines, line by line: no line is left out, and none is added
 unfoldable pub Each : (Line → Line → Type 0) → List Line → List Line → Type 0
 Each R [] [] = Unit {0}
 Each R [] (l ∷ ls) = ⊥
@@ -29,7 +29,7 @@ unfoldable pub count : Side → List ShiftLine → ℕ
 count side [] = 0
 count side (c ∷ cs) = alike side (c .side) + count side cs
 
--- ---- one line: o is a line as it was opened, l the same line after u upward and d downward shifts
+-- ---- market: o is a line, l the same line after u upward and d downward shifts (METHOD 16.1, 16.2)
 abbrev pub Centre : ℕ → ℕ → Line → Line → Type 0
 Centre u d o l = l .market .centre .0 ≡ o .market .centre .0 +ℤ o .terms .halfmove .0 *ℤ pos u -ℤ o .terms .halfmove .0 *ℤ pos d
 
@@ -41,21 +41,21 @@ pub record HalfWidths (n : ℕ) (o l : Line) : Type 0 where
   pub half2 : l .market .half2 .0 ≡ grown n o (o .market .half2)
   pub half3 : l .market .half3 .0 ≡ grown n o (o .market .half3)
 
--- ---- one shift, from line l to line n
--- "interest bounds are worked out again": how far the upper one rose, and the lower one fell
+-- ---- limits, over one shift from line l to line n
+-- how far the upper interest bound rose, and the lower one fell
 abbrev pub rise : Line → Line → ℤ
 rise l n = bound Up (n .terms) (n .market) -ℤ bound Up (l .terms) (l .market)
 
 abbrev pub fall : Line → Line → ℤ
 fall l n = bound Down (l .terms) (l .market) -ℤ bound Down (n .terms) (n .market)
 
--- Up: ".. and the upper limit rises by the growth of the upper interest bound"
+-- Up: the upper limit goes with its bound, and nothing else moves (METHOD 16.1).
 pub record LimitsUp (l n : Line) : Type 0 where
   pub upper : n .limits .upper .0 ≡ l .limits .upper .0 +ℤ rise l n
   pub lower : n .limits .lower ≡ l .limits .lower
   pub frozen : n .limits .frozen ≡ l .limits .frozen
 
--- Down: ".. and the lower limit falls by the fall of the lower interest bound; without flag bit 0 a result below 1 becomes 1 and is frozen"
+-- Down: the lower limit goes with its bound, unless it would go below the floor of one step (METHOD 16.2, 16.3).
 pub data LowerBecomes (l n : Line) (result : ℤ) : Type 0 where
   the-result :
       (permits-negative (l .terms .flags) ≡ false → pos 1 ≤ℤ result) → n .limits .lower .0 ≡ result → n .limits .frozen ≡ l .limits .frozen
@@ -72,9 +72,8 @@ abbrev pub LimitsMoved : Side → Line → Line → Type 0
 LimitsMoved Up l n = LimitsUp l n
 LimitsMoved Down l n = LimitsDown l n
 
--- The whole line, over shift line c, after which `left` shifts are left. Its centre and half-widths are rule 3's of one shift. "Holds of the
--- shifted side end, that side's pressure is judged anew from that second. The other side's holds go on, and new pressure there starts at
--- that second."
+-- ---- the whole line, over shift line c, after which `left` shifts are left
+-- Both sides are judged at the shift's second, from what it leaves of their holds (METHOD 16.4, 16.5, 16.7).
 pub record LineShifted (near : Millionths) (left : ℕ) (c : ShiftLine) (l n : Line) : Type 0 where
   pub terms : n .terms ≡ l .terms
   pub centre : Centre (alike Up (c .side)) (alike Down (c .side)) l n

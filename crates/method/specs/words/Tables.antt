@@ -13,7 +13,7 @@ use Rattle.method.specs.words.Growth.{most-exponent}
 use Rattle.method.specs.words.Bounds.{bound}
 use Rattle.method.specs.words.Opening.{market-of, terms-of, corridor, fresh-line, exponent-of}
 
--- ---- a table that is laid out as its header says
+-- ---- a table that is laid out as its header says (METHOD 11.1 to 11.4)
 pub record Laid (h : Header) (size : ℕ) : Type 0 where
   pub keys : h .keysat ≡ 40
   pub contracts : h .contractsat ≡ contracts-start h
@@ -36,7 +36,7 @@ unfoldable pub last-days : ℕ → List Key → ℕ
 last-days before [] = before
 last-days before (k ∷ keys) = last-days (k .days) keys
 
--- ---- a contract after some contracts before it: an id that is not 0 and not theirs, and limits inside their bounds
+-- ---- a contract after some contracts before it: an id that is not 0 and not theirs, and limits inside their bounds (METHOD 11.6)
 pub record Fresh (earlier : List Contract) (id : ℕ) : Type 0 where
   pub given : 0 < id
   pub new : Every (λ e. e .id ≡ id → ⊥) earlier
@@ -67,7 +67,7 @@ module _ (shift : Millionths) (keys : List Key) where
   GoodAll earlier [] = Unit {0}
   GoodAll earlier (c ∷ cs) = Good earlier c × GoodAll (earlier ++ (c ∷ [])) cs
 
-  -- 5 to 9, in this order: each fault where none before it stands
+  -- refusals 5 to 9, in this order: each fault where none before it stands
   pub data Fault (earlier : List Contract) (c : Contract) : TableReason → Type 0 where
     field : (ContractIn c → ⊥) → Fault earlier c TableReason.Field
     id : ContractIn c → (Fresh earlier (c .id) → ⊥) → Fault earlier c TableReason.Id
@@ -79,18 +79,17 @@ module _ (shift : Millionths) (keys : List Key) where
         ContractIn c → Fresh earlier (c .id) → exponent-of keys c ≤ most-exponent → pos 1 ≤ℤ (its-terms c .halfmove .0)
         → (InsideBounds (its-terms c) (market-of c) (its-corridor c) → ⊥) → Fault earlier c TableReason.Corridor
 
--- ---- the whole table
+-- ---- the answers, and the state that a table opens (METHOD 11.9, 11.10)
 pub data Opening : Type 0 where
   opened : State → Opening
   refused : TableReason → ℕ → Opening
 
--- "the clock at 0"
 unfoldable pub opening-state : Header → List Line → State
 opening-state h ls = record { lines = ls; clock = seconds 0; end = h .end; hold = h .hold; left = h .most; near = h .near }
 
--- ---- the answer to a table: one clause for each way, and together they leave exactly one answer
+-- ---- the answer to a table: one clause for each way, and together they leave exactly one answer (METHOD 11.7, 11.8)
 pub data TableAnswered (b : List ℕ) : Opening → Type 0 where
-  -- 1
+  -- refusal 1
   too-short : length b < 40 → TableAnswered b (refused TableReason.Length 0)
   -- 2
   edition-not-1 : 40 ≤ length b → (header-of b .edition ≡ 1 → ⊥) → TableAnswered b (refused TableReason.Edition 0)

@@ -1,0 +1,102 @@
+-- Figures that pin what no rule pins: the half-widths of all three levels, the exponent's cap from both sides, and lines that do not press because
+-- they are not watched or are frozen. One table under one claim. Assumes nothing.
+use mathlib.Core.List.{List, [], _∷_, _++_, map}
+use mathlib.Core.Path.{_≡_, refl}
+use Prim.Native.Nat.{ℕ}
+use lib.IntN.{ℤ, pos, negsuc}
+use Rattle.method.specs.words.Types.{Contract, Line, steps, millionths}
+use Rattle.method.specs.words.Wire.{word, signed, bit}
+use Rattle.method.specs.words.Layout.{header-of, key-at, contract-at, keys-at, contracts-at}
+use Rattle.method.specs.words.Growth.{between-keys, rate-from, rate-by-keys, rate-at, exponent, term, series, up-factor, down-factor, factors-of}
+use Rattle.method.specs.words.Bounds.{factor, interest, bound}
+use Rattle.method.specs.words.Opening.{normal-price, half-width, market-of, half-move, terms-of, corridor-half, corridor, floored, fresh-line}
+use Rattle.method.specs.words.Tables.{opening-state}
+use Rattle.method.specs.words.Pressure.{close, presses}
+use Rattle.method.specs.told.Refusals.{table-number, event-number}
+use Rattle.method.specs.told.Questions.{known}
+use Rattle.method.specs.told.Rows.{rows-of, rows-of-all, closing-row, row-numbers, numbers-of}
+use Rattle.method.specs.told.Program.{pieces}
+use Rattle.method.specs.computed.Opening.{rates-good, fields-good, id-good, inside-bounds, opened-with, open-line}
+use Rattle.method.specs.computed.Table.{header-good, laid-out, key-good, bad-key, open-lines, open-records, opening}
+use Rattle.method.specs.computed.Judge.{judged, judge}
+use Rattle.method.specs.computed.Shift.{moved, redrawn, moved-line, shift-line, shifted, after}
+use Rattle.method.specs.computed.Event.{read-tick, read-quote, read, in-session, not-crossed, verdict, quoted-line, quoted, applied, next}
+use Rattle.method.specs.computed.Search.{due-of, ahead, sooner, passed, earliest, in-time, next-due, serve, answer, run, finally}
+use Rattle.method.specs.computed.Program.{session-rows, rows-after, program}
+use Rattle.method.specs.figures.Inputs.{table, tick, bid, ask, line, of-line, Figure, figure}
+
+-- ---- three levels with rates of their own, at P 1,000 and shift share 500,000
+abbrev levels : ℤ → ℤ → ℕ → ℕ → ℕ → Contract
+levels spot least rate1 rate2 rate3 =
+    record {
+      price = steps (pos 1_000);
+      spot = steps spot;
+      least = steps least;
+      rate1 = millionths rate1;
+      rate2 = millionths rate2;
+      rate3 = millionths rate3;
+      width = millionths 500_000;
+      days = 90;
+      id = 7;
+      flags = 2;
+    }
+
+-- what an opened line has of them, and then its half-move
+abbrev halves : Line → List ℤ
+halves l = l .market .half1 .0 ∷ l .market .half2 .0 ∷ l .market .half3 .0 ∷ l .terms .halfmove .0 ∷ []
+
+-- ---- whole inputs
+-- one key, and contract 7 with spot and P as given; most shifts 2
+abbrev one : ℕ → ℕ → ℕ → ℕ → ℕ → ℕ → ℕ → List ℕ → List ℤ
+one rate price days level width flags least events =
+    numbers-of
+    (program
+    (table 1_000 2 1 1
+    (days ∷ rate ∷ price ∷ price ∷ least ∷ level ∷ level ∷ level ∷ width ∷ days ∷ 7 ∷ flags ∷ events)))
+
+-- at P 1,000, half-width 100 and limits 950 and 1,050, of which less than 5 is near
+abbrev plain : ℕ → List ℕ → List ℤ
+plain flags events = one 0 1_000 90 100_000 500_000 flags 1 events
+
+-- at P 30, half-width 30 and half-move 7; limits by the width share
+abbrev low : ℕ → ℕ → List ℕ → List ℤ
+low width flags events = one 0 30 365 1_000_000 width flags 1 events
+
+-- a shift line of contract 7, and the closing line of it
+abbrev shift : ℕ → ℕ → List ℤ
+shift second side = map pos (1 ∷ second ∷ side ∷ 7 ∷ 0 ∷ 0 ∷ [])
+
+abbrev closed : ℤ → ℤ → ℤ → ℤ → List ℤ
+closed lower upper lowerbound upperbound = pos 4 ∷ pos 7 ∷ lower ∷ upper ∷ lowerbound ∷ upperbound ∷ []
+
+-- ---- the table: the figure, and what the definitions give
+abbrev pub edges : List Figure
+edges =
+    -- Half-widths of a normal price of 1,051, each level rounded up by itself: 105.1, 238.000001, 812.999999; then the last one exactly 1,051.
+    figure (map pos (106 ∷ 239 ∷ 813 ∷ 26 ∷ [])) (of-line halves (line 0 (levels (pos 1_051) (pos 1) 100_000 226_451 773_549)))
+    ∷ figure (map pos (106 ∷ 239 ∷ 813 ∷ 26 ∷ [])) (of-line halves (line 0 (levels (negsuc 1_050) (pos 1) 100_000 226_451 773_549)))
+    ∷ figure (map pos (239 ∷ 813 ∷ 1_051 ∷ 59 ∷ [])) (of-line halves (line 0 (levels (negsuc 1_049) (pos 1_051) 226_451 773_549 1_000_000)))
+    -- The cap: rate 50,000 at 3,650 days meets it exactly; 249,658 at 731 is 499,999,994; 106,043 at 1,721 is 500,000,008, the least above it that
+    -- a table can give.
+    ∷ figure (map pos (500_000_000 ∷ 499_999_994 ∷ 500_000_008 ∷ [])) (map pos (exponent 50_000 3_650 ∷ exponent 249_658 731 ∷ exponent 106_043 1_721 ∷ []))
+    ∷ figure (map pos (1_648_721_267 ∷ 606_530_661 ∷ [])) (map pos (up-factor 500_000_000 ∷ down-factor 500_000_000 ∷ []))
+    ∷ figure (closed (pos 45_754_586) (pos 154_245_414) (pos 30_326_533) (pos 247_308_191)) (one 50_000 100_000_000 3_650 500_000 500_000 2 1 [])
+    ∷ figure (closed (pos 683) (pos 1_317) (pos 545) (pos 1_814)) (one 249_658 1_000 731 100_000 500_000 2 1 [])
+    ∷ figure (map pos (3 ∷ 7 ∷ 1 ∷ 0 ∷ 0 ∷ 0 ∷ [])) (one 106_043 1_000 1_721 100_000 500_000 2 1 [])
+    -- A bid on the upper limit, an ask on the lower: a watched line shifts at 70, one without watch never.
+    ∷ figure (shift 70 0 ++ closed (pos 950) (pos 1_100) (pos 900) (pos 1_150)) (plain 2 (bid 10 7 1_050 (tick 69 (tick 1_000 []))))
+    ∷ figure (closed (pos 950) (pos 1_050) (pos 900) (pos 1_100)) (plain 0 (bid 10 7 1_050 (tick 69 (tick 1_000 []))))
+    ∷ figure (shift 70 1 ++ closed (pos 900) (pos 1_050) (pos 850) (pos 1_100)) (plain 2 (ask 10 7 950 (tick 69 (tick 1_000 []))))
+    ∷ figure (closed (pos 950) (pos 1_050) (pos 900) (pos 1_100)) (plain 0 (ask 10 7 950 (tick 69 (tick 1_000 []))))
+    -- A lower limit of 1 that is not frozen shifts once and is frozen by it; one that was lifted to 1 at opening presses down never, and up as ever;
+    -- where negative prices are permitted there is no floor.
+    ∷ figure (shift 61 1 ++ closed (pos 1) (pos 59) (negsuc 13) (pos 60)) (low 966_667 2 (ask 1 7 1 (tick 61 (tick 1_000 []))))
+    ∷ figure (closed (pos 1) (pos 60) (pos 0) (pos 60)) (low 1_000_000 2 (ask 1 7 1 (tick 61 (tick 1_000 []))))
+    ∷ figure (shift 61 0 ++ closed (pos 1) (pos 74) (pos 0) (pos 74)) (low 1_000_000 2 (bid 1 7 60 (tick 61 (tick 1_000 []))))
+    ∷ figure (shift 61 1 ++ closed (negsuc 13) (pos 60) (negsuc 13) (pos 60)) (low 1_000_000 3 (ask 1 7 1 (tick 61 (tick 1_000 []))))
+    ∷ []
+
+-- Each is what the definitions give.
+pub edges-claim : map (λ f. f .computed) edges ≡ map (λ f. f .printed) edges
+unfolding word signed bit table-number event-number between-keys rate-from rate-by-keys rate-at exponent term series up-factor down-factor factors-of factor interest bound rates-good fields-good known id-good normal-price half-width market-of half-move terms-of corridor-half corridor inside-bounds floored fresh-line opened-with open-line header-of key-at contract-at keys-at contracts-at header-good laid-out key-good bad-key opening-state open-lines open-records opening close presses judged judge moved redrawn moved-line shift-line shifted after read-tick read-quote read in-session not-crossed verdict quoted-line quoted applied next due-of ahead sooner passed earliest in-time next-due serve answer run finally rows-of rows-of-all closing-row session-rows pieces rows-after program row-numbers
+edges-claim = refl
