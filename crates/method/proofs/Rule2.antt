@@ -13,7 +13,7 @@ use Rattle.method.specs.words.Sessions.{Answer, accepted, SameTable, Fol
 use Rattle.method.specs.words.Rules.{Opens, EverySession}
 use Rattle.method.specs.laws.Seen.{hold-at, Caller, Timely, AtOnce}
 use Rattle.method.specs.laws.Stages.{Stage, Begun, Throughout}
-use Rattle.method.specs.laws.Laws.{EventAtOnce, NothingLeft, NoneMissed, HoldsStandExactly, HoldsStandBetween, InOrder, EachLineCalledFor, EachLineReported, ShiftsCounted, AtMostSixteen, Rule2, AtMostOne, WheneverLooked, AtOpening, TableKept}
+use Rattle.method.specs.laws.Rule2.{EventAtOnce, NothingLeft, NoneMissed, HoldsStandExactly, HoldsStandBetween, InOrder, EachLineCalledFor, EachLineReported, ShiftsCounted, AtMostSixteen, Rule2, AtMostOne, WheneverLooked, AtOpening, TableKept}
 use Rattle.method.specs.computed.Shift.{after}
 use Rattle.method.specs.computed.Event.{read, next}
 use Rattle.method.specs.computed.Relation.{Calls, time, Right}

@@ -16,7 +16,7 @@ use Rattle.method.specs.words.Sessions.{Answer, joined, AnswersInWords}
 use Rattle.method.specs.words.Corridor.{margin, FloorMet, at-opening, in-a-shift, Lower, exactly, at-floor, Outward}
 use Rattle.method.specs.words.Rules.{Opens, Moment, start, Centres, HalfWidthsGrow, ShiftsWithin, NeverInward, UpperInside, LowerInside}
 use Rattle.method.specs.laws.Seen.{Shifted, StaysFrozen}
-use Rattle.method.specs.laws.Laws.{FrozenTells, FrozenForGood, LinesShifted, OneLine, AnswersLead, ShiftsLead}
+use Rattle.method.specs.laws.Rule3.{FrozenTells, FrozenForGood, LinesShifted, OneLine, AnswersLead, ShiftsLead}
 use Rattle.method.specs.computed.Opening.{ids}
 use Rattle.method.specs.computed.Later.{Later}
 use Rattle.method.specs.computed.Rooms.{OpeningIn, Room}

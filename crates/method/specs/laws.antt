@@ -2,5 +2,6 @@
 -- to know of the words: that no shift is left out or late, who called for each, and that ticks are free.
 pub mod Seen
 pub mod Stages
-pub mod Laws
+pub mod Rule2
+pub mod Rule3
 pub mod Ticks

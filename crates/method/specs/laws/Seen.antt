@@ -16,7 +16,7 @@ use Rattle.method.specs.words.Sessions.{SameTable, Follows}
 use Rattle.method.specs.words.Corridor.{margin, Lower}
 use Rattle.method.specs.words.Rules.{AfterAny}
 
--- an event b after them that is accepted: s is the state before it, cs are its shift lines, n is the state after it
+-- after any events an event b that is accepted: s is the state before it, cs are its shift lines, n is the state after it
 abbrev pub AnyAccepted : (State → Type 0) → (State → List ℕ → List ShiftLine → State → Type 0) → Type 0
 AnyAccepted From Q = AfterAny From (λ o from past told s. (b : List ℕ) (cs : List ShiftLine) (n : State) → Follows s b cs n → Q s b cs n)
 
@@ -72,7 +72,7 @@ pub data Answered (x : Due) (left : ℕ) (cs : List ShiftLine) : Type 0 where
   by-shift : (c : ShiftLine) → List·Memᴰ c cs → c .side ≡ x .side → c .second .0 ≤ x .second .0 → Answered x left cs
   all-made : length cs ≡ left → Every (λ c. c .second .0 ≤ x .second .0) cs → Answered x left cs
 
--- All that rule 3 says of one line, and that what the table told of the contract stays.
+-- ---- all that rule 3 says of one line, and that what the table told of the contract stays
 pub record Shifted (u d : ℕ) (o l : Line) : Type 0 where
   pub terms : l .terms ≡ o .terms
   pub centre : Centre u d o l

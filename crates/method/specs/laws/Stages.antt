@@ -11,7 +11,7 @@ use Rattle.method.specs.words.Sessions.{Serves, nothing, first, Follows,
 use Rattle.method.specs.words.Rules.{start}
 use Rattle.method.specs.laws.Seen.{hold-at, presses-at, Caller, Timely}
 
--- ---- its stages: one after each shift, and one after each accepted event; each with the second at which its state begins
+-- a stage has the second at which its state begins
 pub record Stage : Type 0 where
   pub second : Seconds
   pub state : State

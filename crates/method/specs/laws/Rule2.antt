@@ -1,41 +1,38 @@
--- What is proved of every session beside rules 1 to 3's own sentences (METHOD 24.8 to 24.17, 24.22, 24.25, 24.26). The name in brackets is the
--- theorem, in proofs/Rule2 and proofs/Rule3.
-use mathlib.Core.Bool.{true}
+-- What rule 2's words come to, of every session that begins in a state of which `From` holds: no shift is left out, late or made up, and they
+-- come in order. The name in brackets is the theorem, in proofs/Rule2.
 use mathlib.Core.List.{List, _∷_, _++_}
-use mathlib.Core.Logic.{_↔_}
 use mathlib.Core.Path.{_≡_}
 use Prim.Native.Nat.{ℕ, _+_, _≤_, _<_}
 use lib.ListN.{length}
-use Rattle.method.specs.words.Types.{Seconds, Side, Idle, Line, ShiftLine, Due, seconds, State}
+use Rattle.method.specs.words.Types.{Seconds, Side, Idle, ShiftLine, Due, seconds, State}
 use Rattle.method.specs.words.Wire.{word}
 use Rattle.method.specs.words.Layout.{header-of}
 use Rattle.method.specs.words.Ranges.{Every}
 use Rattle.method.specs.words.Holds.{Stands, Done}
-use Rattle.method.specs.words.Shifts.{Each}
 use Rattle.method.specs.words.Sessions.{Serves, Follows, Answer, AnswersInWords, joined}
-use Rattle.method.specs.words.Corridor.{FloorMet}
-use Rattle.method.specs.words.Rules.{Opens, AfterAny, EachLine, Moment, EverySession}
-use Rattle.method.specs.laws.Seen.{AnyAccepted, Fixed, hold-at, HoldsExact, Rising, Answered, Shifted, StaysFrozen, AtOnce}
+use Rattle.method.specs.words.Rules.{Opens, AfterAny, EverySession}
+use Rattle.method.specs.laws.Seen.{AnyAccepted, Fixed, hold-at, HoldsExact, Rising, Answered, AtOnce}
 use Rattle.method.specs.laws.Stages.{CalledFor, Reported}
 use Rattle.method.specs.computed.Rooms.{empty-book}
 
--- An accepted event at once, its shifts counted as in rule 3: the lines, their books, the shifts left and the clock. (rule2-at-once)
+-- An accepted event at once, its shifts counted as in rule 3: the lines, their books, the shifts left and the clock.
+-- (METHOD 24.8, 24.9; rule2-at-once)
 abbrev pub EventAtOnce : (State → Type 0) → Type 0
 EventAtOnce From = AnyAccepted From AtOnce
 
--- ---- every shift is made at its due second
--- After an accepted event no hold is left that is due at or before its time and before session end. (rule2-nothing-left)
+-- ---- none left out, none late
+-- After an accepted event no hold is left that is due at or before its time and before session end. (METHOD 24.10; rule2-nothing-left)
 abbrev pub NothingLeft : (State → Type 0) → Type 0
 NothingLeft From = AnyAccepted From (λ s b cs n. Done (seconds (word b 0)) n)
 
--- And none was missed or late: every hold that stood before the event (cs is empty), or between its shift lines cs and ds, and was due at or
--- before its time and before session end, was answered by the lines that followed. (rule2-none-missed)
+-- Every hold that stood before the event (cs is empty), or between its shift lines cs and ds, and was due at or before its time and before
+-- session end, was answered by the lines that followed. (METHOD 24.11; rule2-none-missed)
 abbrev pub NoneMissed : (State → Type 0) → Type 0
 NoneMissed From =
     AfterAny From (λ o from past told s. (b : List ℕ) (cs ds : List ShiftLine) (m n : State) → Follows s b (cs ++ ds) n
     → Serves (seconds (word b 0)) s cs m → (x : Due) → Stands m x → x .second .0 ≤ word b 0 → x .second .0 < o .end .0 → Answered x (m .left) ds)
 
--- A hold stands exactly where a watched line presses and shifts are left: after any events, (rule2-exact)
+-- A hold stands exactly where a watched line presses and shifts are left: after any events, (METHOD 24.13; rule2-exact)
 abbrev pub HoldsStandExactly : (State → Type 0) → Type 0
 HoldsStandExactly From = AfterAny From (λ o from bs rs s. HoldsExact s)
 
@@ -44,15 +41,15 @@ abbrev pub HoldsStandBetween : (State → Type 0) → Type 0
 HoldsStandBetween From =
     AfterAny From (λ o from past told s. (t : Seconds) (cs : List ShiftLine) (m : State) → Serves t s cs m → HoldsExact m)
 
--- ---- in the stated order
+-- ---- in order
 -- Along the joined list seconds never fall; at one second up comes before down, and there is at most one of each. Which of the holds that
--- stand calls is said in `Caller`. (rule2-order)
+-- stand calls is said in `Caller`. (METHOD 24.14; rule2-order)
 abbrev pub InOrder : (State → Type 0) → Type 0
 InOrder From = AfterAny From (λ o from bs rs s. Rising (joined rs))
 
--- ---- and no other
+-- ---- none made up
 -- Each shift line c of the answer to b, after the lines cs of that answer, is called for by the hold that goes first, under which its line has
--- pressed without a break for the hold seconds. (rule2-called-for)
+-- pressed without a break for the hold seconds. (METHOD 24.15; rule2-called-for)
 abbrev pub EachLineCalledFor : (State → Type 0) → Type 0
 EachLineCalledFor From =
     (o : State) → From o → (past : List (List ℕ)) (told : List Answer) (s : State) (h : AnswersInWords o past told s) (b : List ℕ) (cs : List ShiftLine)
@@ -62,15 +59,16 @@ EachLineCalledFor From =
 abbrev pub EachLineReported : (State → Type 0) → Type 0
 EachLineReported From = AfterAny From (λ o from bs rs s. Every (Reported o bs rs) (joined rs))
 
--- The shift lines and the shifts left are as many as were left when the session began. (rule2-count)
+-- The shift lines and the shifts left are as many as were left when the session began: `left` of `AtOnce`, event by event.
+-- (METHOD 24.16; rule2-count)
 abbrev pub ShiftsCounted : (State → Type 0) → Type 0
 ShiftsCounted From = AfterAny From (λ o from bs rs s. length (joined rs) + s .left ≡ o .left)
 
--- An accepted event has at most 16 shift lines. (rule2-at-most-sixteen)
+-- An accepted event has at most 16 shift lines: no more shifts than that are ever left. (METHOD 24.17; rule2-at-most-sixteen)
 abbrev pub AtMostSixteen : (State → Type 0) → Type 0
 AtMostSixteen From = AnyAccepted From (λ s b cs n. length cs ≤ 16)
 
--- ---- all of it at once: of what a table opens (rule2), and of what a host has kept (rule2-kept)
+-- ---- all of it, with rule 2's own sentence: of what a table opens (rule2), and of what a host has kept (rule2-kept)
 pub record Rule2 (From : State → Type 0) : Type 0 where
   pub every-session : EverySession From
   pub at-once : EventAtOnce From
@@ -91,45 +89,18 @@ AtMostOne =
     (s : State) (bs : List (List ℕ)) (rs qs : List Answer) (m n : State) → AnswersInWords s bs rs m → AnswersInWords s bs qs n
     → (rs ≡ qs) × (m ≡ n)
 
--- A look at second u, before t, calls for no other shift: those up to u and then those up to t are those up to t. (rule2-whenever-looked)
+-- A look at second u, before t, calls for no other shift: those up to u and then those up to t are those up to t.
+-- (METHOD 24.12; rule2-whenever-looked)
 abbrev pub WheneverLooked : Type 0
 WheneverLooked =
     (u t : Seconds) (s m n : State) (cs ds : List ShiftLine) → u .0 ≤ t .0 → Serves u s cs m → Serves t m ds n → Serves t s (cs ++ ds) n
 
 -- ---- of what a table opens
--- Every book is empty and the clock stands at 0; there is no pressure yet, and so no hold. (rule2-at-opening)
+-- Every book is empty and the clock stands at 0; there is no pressure yet, and so no hold. (METHOD 24.8; rule2-at-opening)
 abbrev pub AtOpening : Type 0
 AtOpening =
     (o : State) → Opens o → Every (λ l. l .book ≡ empty-book) (o .lines) × (o .clock ≡ seconds 0) × ((side : Side) (place : ℕ) → hold-at side o place ≡ Idle)
 
--- Session end, hold seconds and near share are the table's, after any events. (rule2-table-kept)
+-- Session end, hold seconds and near share are the table's, after any events. (METHOD 24.9; rule2-table-kept)
 abbrev pub TableKept : Type 0
 TableKept = AfterAny Opens (λ o opens bs rs s. Fixed (header-of (opens .table)) s)
-
--- The states of rule 2 are moments: the state after a list of answers, by their shift lines, (rule3-answers-lead)
-abbrev pub AnswersLead : Type 0
-AnswersLead = (s n : State) (bs : List (List ℕ)) (rs : List Answer) → AnswersInWords s bs rs n → Moment s (joined rs) n
-
--- and the state after the first shift lines of an answer, from which the rest of them lead to the state after it. (rule3-shifts-lead)
-abbrev pub ShiftsLead : Type 0
-ShiftsLead =
-    (s m n : State) (b : List ℕ) (cs ds : List ShiftLine) → Follows s b (cs ++ ds) n → Serves (seconds (word b 0)) s cs m
-    → Moment s cs m × Moment m ds n
-
--- A lower limit is frozen exactly where the floor has acted. (rule3-frozen-tells)
-abbrev pub FrozenTells : Type 0
-FrozenTells = EachLine (λ u d o l. (l .limits .frozen ≡ true) ↔ FloorMet o l)
-
--- What is frozen at a moment is so at any later one, at one step. (rule3-frozen-for-good)
-abbrev pub FrozenForGood : Type 0
-FrozenForGood =
-    (o s r : State) (cs ds : List ShiftLine) → Opens o → Moment o cs s → Moment s ds r
-    → Each StaysFrozen (s .lines) (r .lines)
-
--- ---- all that is said of a line at once (rule3-lines)
-abbrev pub LinesShifted : Type 0
-LinesShifted = EachLine Shifted
-
--- It leaves one line: as many shifts of the same opening line give the same market and the same limits. (rule3-one-line)
-abbrev pub OneLine : Type 0
-OneLine = (u d : ℕ) (o l r : Line) → Shifted u d o l → Shifted u d o r → (l .market ≡ r .market) × (l .limits ≡ r .limits)
