@@ -5,11 +5,12 @@
  * anywhere else, so two sessions do not know of each other, and a copy of one (memcpy, or a file) is a session that goes on
  * from there by itself, in another process too. `sundewcup_open` fills it; until then it may hold anything.
  *
- * Memory that holds no session, or one whose numbers were changed by anybody else, is found out: every function but
- * `sundewcup_open` and the two with `_unchecked` in their names tests all of it first, and refuses it with
- * SUNDEWCUP_DAMAGED; everything is then as it was. What no function can find out, and you must not do: change a session into
- * another sound one; hand one to two threads at once, unless all of them only ask (`const`); hand over a null pointer, also
- * where a length is 0; let two arguments overlap.
+ * Memory whose numbers are no sound session, because none was opened there, its table was refused or somebody changed them,
+ * is refused with SUNDEWCUP_DAMAGED: every function that takes a session, but for `sundewcup_open` and the two with
+ * `_unchecked` in their names, tests all of it first. Everything is then as it was, and no shift is made. A session that was
+ * changed into another sound one is not found out, and the two unchecked functions do not look. What you must not do, since
+ * no function can find it out: change a session into another sound one; hand one to two threads at once, unless all of them
+ * only ask (`const`); hand over a null pointer, also where a length is 0; let two arguments overlap.
  *
  * Answers are numbers: 0 where nothing is refused, or the number of the refusal, the same everywhere:
  *
@@ -20,7 +21,7 @@
  *    5  a field of a contract is out of range               12  the bytes are no event
  *    6  a contract's id is 0 or used on an earlier line     13  no contract has this id
  *    7  a contract's exponent is beyond its cap             14  the quote's bid is above its ask
- *                                                           99  the memory holds no session, or a damaged one
+ *                                                           99  the memory holds no sound session
  *
  * A refused event, 10 to 14, changes nothing: every number of the session is as it was. Prices are in whole minimum steps,
  * times in seconds from session start. A question is answered as of the clock: whoever asks in second t sends a tick at t
@@ -65,7 +66,8 @@ enum { SUNDEWCUP_BELOW = -1, SUNDEWCUP_INSIDE = 0, SUNDEWCUP_ABOVE = 1 };
 /*
  * Opens a session from the bytes of a morning table, of any length and sound or not. The result is 0, or the number of the
  * refusal, 1 to 9; *line is then the line of the table at fault, counted from 1, or 0 for the header, and 0 where nothing is
- * refused. Beside a refusal the session is one that knows no contract, so it may be handed to every function.
+ * refused. After a refusal the memory holds no session, whatever it held before: every function that tests it answers 99,
+ * or SUNDEWCUP_DAMAGED_COUNT, until a table is opened there, and the two that do not test must not be handed it.
  */
 int64_t sundewcup_open(sundewcup_session *session, const uint8_t *table, size_t table_length, int64_t *line);
 
@@ -81,8 +83,8 @@ int64_t sundewcup_event(sundewcup_session *session, const uint8_t *event, size_t
                         int64_t shifts[SUNDEWCUP_SHIFT_NUMBERS], size_t *made);
 
 /*
- * The same without the test, which costs more than the event: for memory that only these functions have written since
- * `sundewcup_open` filled it or `sundewcup_check` said 0. Of any other memory nothing is promised.
+ * The same without the test, which costs more than the event: for memory of which `sundewcup_open` or `sundewcup_check` said
+ * 0, and in which since then only the functions that take events have written. Of any other memory nothing is promised.
  */
 int64_t sundewcup_event_unchecked(sundewcup_session *session, const uint8_t *event, size_t event_length,
                                   int64_t shifts[SUNDEWCUP_SHIFT_NUMBERS], size_t *made);

@@ -421,6 +421,15 @@ mod tests {
     }
 
     #[test]
+    fn a_refused_table_opens_no_session() {
+        let input = example("starred");
+        let session = Session::open(parts(&input).0).expect("a good table");
+        let mut numbers = session.numbers();
+        assert_eq!(library::open(&mut numbers, &[]), (1, 0));
+        assert_eq!(Session::from_numbers(numbers), Err(Damaged));
+    }
+
+    #[test]
     fn a_refusal_changes_nothing() {
         let input = example("starred");
         let mut session = Session::open(parts(&input).0).expect("a good table");

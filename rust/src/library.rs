@@ -28,7 +28,7 @@ extern "C" {
     fn sundewcup_session_numbers() -> usize;
 }
 
-/// The number of the refusal or 0, and its line. The session is sound afterwards in any case.
+/// The number of the refusal or 0, and its line. After a refusal the numbers are no session, and only `check` and `open` may take them.
 pub fn open(session: &mut [u64; SESSION_NUMBERS], table: &[u8]) -> (i64, i64) {
     let mut line = 0;
     // SAFETY: the pointers come from references that live through the call and do not overlap; any numbers may stand in the session.
@@ -36,7 +36,7 @@ pub fn open(session: &mut [u64; SESSION_NUMBERS], table: &[u8]) -> (i64, i64) {
     (number, line)
 }
 
-/// The number of the refusal or 0, and how many shift rows were written. The session is one that `open` made or `check` found sound.
+/// The number of the refusal or 0, and how many shift rows were written. The session is one that `open` opened or `check` found sound.
 pub fn event(session: &mut [u64; SESSION_NUMBERS], event: &[u8], shifts: &mut [i64; SHIFT_NUMBERS]) -> (i64, usize) {
     let mut made = 0;
     // SAFETY: as in `open`; that the session is sound holds since only these functions change one (`Session` keeps it to itself).

@@ -1,10 +1,9 @@
 -- What is said of limits, of an order price and of all that stands on a line, in numbers. Assumes nothing.
 use mathlib.Core.Path.{_≡_, refl}
-use mathlib.Core.Bool.{Bool, true, false, cond}
 use mathlib.Core.List.{List, [], _∷_}
 use lib.IntN.{ℤ, pos}
 use lib.ListN.{getD}
-use Rattle.method.specs.told.Refusals.{event-number, limits-said, report-said}
+use Rattle.method.specs.told.Refusals.{event-number, mark, limits-said, report-said}
 use Rattle.method.specs.told.Rows.{row-numbers}
 use Rattle.method.specs.declared.Row.the-variants as Row
 use Rattle.reporting.specs.Told.{report-rows}
@@ -16,14 +15,10 @@ pub limits-none : (a : LimitsAnswer) (out : List ℤ) → a ≡ LimitsAnswer.Ref
 unfolding limits-said event-number
 limits-none a out e = rw e (refl, refl)
 
-pub limits-some : (a : LimitsAnswer) (k : Limits) (m : ℤ) (out : List ℤ) → a ≡ LimitsAnswer.Standing k → m ≡ cond (k .frozen) (pos 1) (pos 0)
+pub limits-some : (a : LimitsAnswer) (k : Limits) (m : ℤ) (out : List ℤ) → a ≡ LimitsAnswer.Standing k → m ≡ mark (k .frozen)
     → (pos 0 ≡ pos (limits-said a .number)) × (k .lower .0 ∷ k .upper .0 ∷ m ∷ [] ≡ told-into out (limits-said a))
 unfolding limits-said
-limits-some a k m out e f = rw (e, f) (refl, marked (k .frozen))
-  where
-    marked : (b : Bool) → k .lower .0 ∷ k .upper .0 ∷ cond b (pos 1) (pos 0) ∷ [] ≡ limits-said (LimitsAnswer.Standing (record { upper = k .upper; lower = k .lower; frozen = b })) .values
-    marked true = refl
-    marked false = refl
+limits-some a k m out e f = rw (e, f) (refl, refl)
 
 pub number-of-row : (why : EventReason) (row : List ℤ) → row ≡ row-numbers (Row.RefusedEvent why) → getD row 1 (pos 0) ≡ pos (event-number why)
 unfolding row-numbers

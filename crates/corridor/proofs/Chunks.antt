@@ -1,4 +1,4 @@
--- Feeding: what is told fits into the room, the session handed back is valid, and a buffer may be fed in parts. Assumes nothing.
+-- Feeding: what is told fits into the room, the session handed back is valid, and a buffer may be fed in two parts. Assumes nothing.
 use mathlib.Core.Path.{_≡_, refl, sym, ap, _∙_}
 use mathlib.Core.List.{List, [], _∷_, _++_, append-assoc}
 use Prim.Native.Nat.{ℕ, zero, suc, _+_, _-_, _*_, _/_, _≤_}
@@ -29,7 +29,9 @@ use Rattle.corridor.specs.declared.Session.{Session}
 use Rattle.corridor.specs.declared.RowsAnswer.{RowsAnswer}
 use Rattle.corridor.specs.declared.Fed.{Fed}
 use Rattle.corridor.specs.View.{view, put, Valid}
-use Rattle.corridor.specs.Feeding.{room, answers-told, told, left-by, fed, fed-into}
+use Rattle.corridor.specs.Feeding.{room, answers-told, told, left-by, fed, fed-into, ToldFits}
+use Rattle.corridor.specs.Chunks.{FeedOn}
+use Rattle.corridor.specs.Handed.{FeedValid}
 use Rattle.corridor.proofs.Views.{view-put, put-put, view-length, valid-put}
 use Rattle.corridor.proofs.Gathered.{ids-next}
 use Rattle.events.proofs.Cutting.{first-event}
@@ -54,7 +56,7 @@ unfolding pieces
 pieces-length zero b = refl
 pieces-length (suc n) b = ap suc (pieces-length n (drop 20 b))
 
-pub told-fits : (s : Session) (b : List ℕ) → Valid s → length (told s b) ≤ room (length b)
+pub told-fits : ToldFits
 told-fits s b v =
     let rs : List Answer = run (view s) (events-of b) in
     omega (
@@ -143,21 +145,12 @@ pub fed-into-is : (s : Session) (out : List ℤ) (b : List ℕ) → room (length
 unfolding fed-into
 fed-into-is s out b h = rw (le-ltb (length out) (room (length b)) h)
 
--- `feed` hands back a valid session, also where there is no room.
-pub valid-feed : (s : Session) (size : ℕ) (b : List ℕ) → Valid s → Valid (fed s size b .session)
+pub valid-feed : FeedValid
 unfolding fed
 valid-feed s size b v =
     by-cond (λ (r : Fed). Valid (r .session)) (ltb size (room (length b))) (λ e. v) (λ e. valid-left s b v)
 
--- Feeding xs, which are whole events, and then ys is feeding both: the same session, and the same numbers in the same places.
-pub record FedOn (s : Session) (xs ys : List ℕ) (out : List ℤ) : Type 0 where
-  pub session : (m n p : ℕ) → room (length xs) ≤ m → room (length ys) ≤ n → room (length (xs ++ ys)) ≤ p
-      → fed (fed s m xs .session) n ys .session ≡ fed s p (xs ++ ys) .session
-  pub numbers : room (length xs) ≤ length out → room (length ys) ≤ length out - length (told s xs) → room (length (xs ++ ys)) ≤ length out
-      → take (length (told s xs)) (fed-into s out xs) ++ fed-into (fed s (length out) xs .session) (drop (length (told s xs)) (fed-into s out xs)) ys
-      ≡ fed-into s out (xs ++ ys)
-
-pub feed-on : (s : Session) (xs ys : List ℕ) (out : List ℤ) (k : ℕ) → length xs ≡ 20 * k → Valid s → FedOn s xs ys out
+pub feed-on : FeedOn
 feed-on s xs ys out k whole v =
     record {
       session = λ m n p h g i. rw (fed-is s m xs h, fed-is (left-by s xs) n ys g, fed-is s p (xs ++ ys) i) (sym (left-on s xs ys k whole));

@@ -11,7 +11,7 @@ use Rattle.method.specs.computed.Search.{run, finally}
 use Rattle.corridor.specs.declared.Session.{Session}
 use Rattle.corridor.specs.View.{Valid}
 use Rattle.corridor.specs.Feeding.{told, left-by}
-use Rattle.corridor.specs.Chunks.{all-bytes, WholeButLast, told-in, left-in}
+use Rattle.corridor.specs.Chunks.{all-bytes, WholeButLast, told-in, left-in, OneBuffer}
 use Rattle.corridor.proofs.Views.{put-view}
 use Rattle.corridor.proofs.Chunks.{told-on, left-on, valid-left}
 
@@ -34,11 +34,5 @@ left-joined s (c ∷ d ∷ cs) v w =
     left-joined (left-by s c) (d ∷ cs) (valid-left s c v) (w .1)
     ∙ sym (left-on s c (all-bytes (d ∷ cs)) (length c / 20) (twenties (length c) (w .0)))
 
--- For any chunks, all but the last of whole events: the numbers told for each in turn are those of all bytes at once, and so is the
--- session that they leave.
-pub record OneBuffer (s : Session) (cs : List (List ℕ)) : Type 0 where
-  pub numbers : told-in s cs ≡ told s (all-bytes cs)
-  pub session : left-in s cs ≡ left-by s (all-bytes cs)
-
-pub one-buffer : (s : Session) (cs : List (List ℕ)) → Valid s → WholeButLast cs → OneBuffer s cs
+pub one-buffer : OneBuffer
 one-buffer s cs v w = record { numbers = told-joined s cs w; session = left-joined s cs v w }

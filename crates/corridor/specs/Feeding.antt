@@ -1,7 +1,7 @@
 -- A buffer of events fed to a session, and their answers as rows of numbers in a lent buffer.
 use mathlib.Core.Bool.{cond}
 use mathlib.Core.List.{List}
-use Prim.Native.Nat.{ℕ}
+use Prim.Native.Nat.{ℕ, _≤_}
 use lib.Dec.{ltb}
 use lib.IntN.{ℤ}
 use lib.ListN.{length}
@@ -13,7 +13,7 @@ use Rattle.rows.specs.Buffer.{written, room as rows-room}
 use Rattle.corridor.specs.declared.Session.{Session}
 use Rattle.corridor.specs.declared.RowsAnswer.{RowsAnswer}
 use Rattle.corridor.specs.declared.Fed.{Fed}
-use Rattle.corridor.specs.View.{view, put}
+use Rattle.corridor.specs.View.{view, put, Valid}
 
 -- the room for the answers to so many bytes: a session makes 16 shifts at most
 abbrev pub room : ℕ → ℕ
@@ -39,3 +39,7 @@ fed s size b =
 -- what the buffer holds then
 unfoldable pub fed-into : Session → List ℤ → List ℕ → List ℤ
 fed-into s out b = cond (ltb (length out) (room (length b))) out (written out 0 (told s b))
+
+-- Whatever a valid session tells for the bytes b, the room for them is enough. [told-fits, in proofs/Chunks]
+abbrev pub ToldFits : Type 0
+ToldFits = (s : Session) (b : List ℕ) → Valid s → length (told s b) ≤ room (length b)

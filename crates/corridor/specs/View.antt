@@ -30,10 +30,10 @@ put s x =
       near = x .near;
     }
 
--- the session that stands beside a refusal
+-- What stands beside a refusal: no lines, and every number 0. No session has hold seconds 0, so that it is not `Valid`.
 abbrev pub no-session : Session
 no-session =
-    record { lines = replicate 32 blank; count = 0; clock = seconds 0; end = seconds 0; hold = seconds 1; left = 0; near = millionths 1 }
+    record { lines = replicate 32 blank; count = 0; clock = seconds 0; end = seconds 0; hold = seconds 0; left = 0; near = millionths 0 }
 
 unfoldable pub opened-session : Opening → Opened
 opened-session (opened x) = record { answer = TableAnswer.Opened; session = put no-session x }

@@ -28,8 +28,8 @@ pub struct Session {
     pub near: Millionths,
 }
 
-// The answer to a table, and beside it the session. A refused table opens nothing: the session that stands beside it has no lines, ends
-// at 0 and makes no shift.
+// The answer to a table, and beside it the session. A refused table opens none: what stands beside it has no lines and hold seconds 0, which
+// no session has, so that no method takes it.
 pub struct Opened {
     pub answer: TableAnswer,
     pub session: Session,

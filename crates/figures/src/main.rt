@@ -1,10 +1,11 @@
-// Program "figures": the paper's rates, exponents and factors, and what stands on the lines of one table, at opening and between events, all
-// worked out by the proved functions. Its input is figures.txt, made into bytes; `stdout` has what the paper says.
+// Program `figures`: rates, exponents and factors, and what stands on the lines of one table, at opening and between events, all worked out
+// by the proved functions. Its input is figures.txt, made into bytes; `stdout` has the figures that were asked for.
 
 ghost use mathlib.Core.Path.{_≡_};
 ghost use lib.ListN.{length};
 ghost use Rattle.corridor.specs.View.{Valid};
 use corridor::Session;
+use method::TableAnswer;
 use numbers::Steps;
 
 mod answers;
@@ -22,16 +23,6 @@ fn event_room() -> [u8; 20]
     ensures { λ r. ⌜ 20 ≡ length r ⌝ }
 {
     [0; 20]
-}
-
-fn opened() -> Session
-    ensures { λ r. ⌜ Valid r ⌝ }
-{
-    let mut room = table_room();
-    let size = io::read_full(0, &mut room);
-    let o = corridor::open(&room[..size]);
-    let s = o.session;
-    s
 }
 
 // The session after the next event.
@@ -146,12 +137,27 @@ fn up_shift(s: Session)
     );
 }
 
-fn main() {
-    rates::say();
-    let s = opened();
+fn lines(s: Session)
+    requires { ⌜ Valid s ⌝ }
+{
     opening(s);
     half_move(s);
     floors(s);
     questions(s);
     up_shift(down_shift(quotes(s)));
+}
+
+fn main() {
+    rates::say();
+    let mut room = table_room();
+    let size = io::read_full(0, &mut room);
+    let o = corridor::open(&room[..size]);
+    let answer = o.answer;
+    match answer {
+        TableAnswer::Refused(_, _) => saying::heading(b"The table is refused"),
+        TableAnswer::Opened => {
+            let s = o.session;
+            lines(s);
+        }
+    }
 }

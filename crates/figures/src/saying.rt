@@ -1,4 +1,4 @@
-// A figure as a line of text: what it is, in the paper's words, and then its numbers.
+// A figure as a line of text: what it is, and then its numbers.
 
 // Above the figures that belong to it.
 pub(crate) fn heading(words: &[u8]) {

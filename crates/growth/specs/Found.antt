@@ -1,4 +1,4 @@
--- "The search over the keys ends at the first key not before the days left" (paper 01): how many keys stand before it.
+-- The place of the key R between which and the key before it a rate is found (METHOD 4.3): how many keys have fewer days than are left.
 use mathlib.Core.Bool.{cond}
 use mathlib.Core.List.{List, [], _∷_}
 use Prim.Native.Nat.{ℕ, suc}

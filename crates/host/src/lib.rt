@@ -29,7 +29,7 @@ pub extern "C" fn sundewcup_session_numbers() -> usize
     memory::numbers()
 }
 
-// Opens a session. Beside a refusal stands one in which no contract is known, so that the memory has a sound session in any case.
+// Opens a session. After a refused table the memory holds none, and every function that checks refuses it as damaged (`tells-after-open`).
 #[no_mangle]
 pub extern "C" fn sundewcup_open(session: &mut [[u64; 21]; 33], table: &[u8], line: &mut i64) -> i64
     ensures { λ r. ⌜ r ≡ pos (table-said (opened-session (opening (now (table .entry))) .answer) .number) ⌝ }

@@ -31,7 +31,7 @@ use packed::reading;
 use verdict::Change;
 use verdict::Verdict;
 
-// Opens a session. Beside a refusal stands one in which no contract is known, so that the memory has a sound session in any case.
+// Opens a session. After a refused table the memory holds none: what it reads as is then not `Valid`.
 pub fn open(session: &mut [[u64; 21]; 33], table: &[u8], line: &mut i64) -> i64
     ensures { λ r. ⌜ r ≡ pos (table-said (opened-session (opening (now (table .entry))) .answer) .number) ⌝ }
     ensures { λ _. ⌜ now (line .exit) ≡ line-said (opened-session (opening (now (table .entry))) .answer) ⌝ }

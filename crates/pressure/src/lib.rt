@@ -69,7 +69,7 @@ pub fn presses(side: Side, near: Millionths, l: Line) -> bool
     false
 }
 
-// A hold starts when pressure starts, ends when it ends, and is untouched while it goes on.
+// One side, judged at the second `now` (METHOD 14.2): a hold that stands keeps its start as long as there is pressure.
 fn judged(now: Seconds, pressed: bool, h: Hold) -> Hold
     ensures { λ r. ⌜ r ≡ judged now pressed h ⌝ }
 {

@@ -1,8 +1,8 @@
 // What stands on one line, in four rows of six numbers for C: each value has its own place, and 0 stands where a hold or a price does not.
 
 ghost use mathlib.Core.Path.{_≡_};
-ghost use mathlib.Core.Bool.{cond};
 ghost use lib.IntN.{pos};
+ghost use Rattle.method.specs.told.Refusals.{mark};
 ghost use Rattle.reporting.specs.Told.{hold-told, price-told, limit-row, market-row, hold-row, book-row, report-rows};
 use method::BothBounds;
 use method::HoldReport;
@@ -13,7 +13,7 @@ use numbers::Seconds;
 use numbers::Steps;
 
 pub fn mark_number(b: bool) -> i64
-    ensures { λ r. ⌜ r ≡ cond b (pos 1) (pos 0) ⌝ }
+    ensures { λ r. ⌜ r ≡ mark b ⌝ }
 {
     if b { 1 } else { 0 }
 }

@@ -8,6 +8,7 @@ use borrow.Author.Tests.{ltb-true}
 use lib.Dec.{ltb}
 use lib.ListN.{take, drop}
 use Rattle.method.specs.declared.Row.the-variants as Row
+use Rattle.method.specs.declared.TableAnswer.{TableAnswer}
 use Rattle.method.specs.words.Types.{State}
 use Rattle.method.specs.words.Layout.{header-of, table-length}
 use Rattle.method.specs.words.Tables.{Opening, opened, refused}
@@ -39,11 +40,11 @@ state-told x b =
     ∙ ap (λ (y : State). answers-told y events ++ numbers-of (map closing-row (finally y events .lines))) (view-put no-session x)
     ∙ sym (numbers-append (rows-of-all (run x events)) (map closing-row (finally x events .lines)))
 
-after-opening : (x : Opening) (chunks : List (List ℕ)) → Valid (opened-session x .session) → WholeButLast chunks
+after-opening : (x : Opening) (chunks : List (List ℕ)) → (opened-session x .answer ≡ TableAnswer.Opened → Valid (opened-session x .session)) → WholeButLast chunks
     → said-after x chunks ≡ numbers-of (rows-after x (events-of (all-bytes chunks)))
 unfolding opened-session rows-after
 after-opening (opened s) chunks v w =
-    let one = one-buffer (put no-session s) chunks v w in
+    let one = one-buffer (put no-session s) chunks (v refl) w in
     rw (one .numbers, one .session) (state-told s (all-bytes chunks))
 after-opening (refused why line) chunks v w = sym (numbers-one (Row.RefusedTable why line))
 

@@ -11,8 +11,6 @@ use Rattle.method.specs.words.Sessions.{joined}
 use Rattle.method.specs.told.Rows.{numbers-of}
 use Rattle.method.specs.told.Program.{events-of}
 use Rattle.method.specs.computed.Search.{run, finally}
-use Rattle.method.specs.computed.Sound.{Proper}
-use Rattle.method.proofs.OneSession.{run-in-words}
 use Rattle.method.proofs.Ticks.{alike-is-same}
 use Rattle.corridor.specs.declared.Session.{Session}
 use Rattle.corridor.specs.declared.Fed.{Fed}
@@ -20,31 +18,38 @@ use Rattle.corridor.specs.View.{view, put, Valid}
 use Rattle.corridor.specs.Feeding.{told, left-by}
 use Rattle.corridor.specs.Chunks.{all-bytes}
 use Rattle.corridor.specs.Engine.{one-by-one, left-after}
-use Rattle.corridor.proofs.Engine.{answers-are, session-left}
+use Rattle.corridor.proofs.Engine.{valid-proper, engine-runs, engine-is-right}
+use Rattle.corridor.proofs.Views.{view-put}
 use Rattle.corridor.proofs.Chunks.{fed-is, fed-into-is}
 use Rattle.corridor.proofs.Joined.{one-buffer}
 use Rattle.sites.specs.Sites.{EventsAlike, only-shifts, FedWith, ToldBy, BuffersAlike, ChunksAsHanded, ChunksAlike}
 use Rattle.sites.proofs.Rows.{only-shifts-are-lines}
 
 -- ---- handed to `event`
+-- sessions that come from one and show one state are one
+same-view : (s : Session) (bs ds : List (List ℕ)) → Valid s → view (left-after s bs) ≡ view (left-after s ds) → left-after s bs ≡ left-after s ds
+same-view s bs ds v e =
+    let x : State = finally (view s) bs in
+    let y : State = finally (view s) ds in
+    let one : left-after s bs ≡ put s x = engine-runs s bs v .session in
+    let other : left-after s ds ≡ put s y = engine-runs s ds v .session in
+    let same : x ≡ y = sym (view-put s x) ∙ ap view (sym one) ∙ e ∙ ap view other ∙ view-put s y in
+    one ∙ ap (put s) same ∙ sym other
+
 pub events-alike : EventsAlike
 events-alike s bs ds v a =
-    let x : State = view s in
-    let found = run-in-words x (v .sound) (v .distinct) in
-    let p : Proper x = record { sane = v .sane; sound = v .sound; distinct = v .distinct } in
-    let h = alike-is-same x bs ds p a (run x bs) (run x ds) (finally x bs) (finally x ds) (found bs) (found ds) in
-    record {
-      lines = ap joined (answers-are s bs) ∙ h .0 ∙ sym (ap joined (answers-are s ds));
-      session = session-left s bs v ∙ ap (put s) (h .1) ∙ sym (session-left s ds v);
-    }
+    let one = engine-is-right s bs v in
+    let other = engine-is-right s ds v in
+    let h = alike-is-same (view s) bs ds (valid-proper s v) a _ _ _ _ (one .answers) (other .answers) in
+    record { lines = h .0; session = same-view s bs ds v (h .1) }
 
 -- ---- the bytes b, told in rows: what the same events come to that are handed over
-module _ (s : Session) (b : List ℕ) where
+module _ (s : Session) (b : List ℕ) (v : Valid s) where
   told-as-handed : only-shifts (told s b) ≡ numbers-of (map Row.Shift (joined (one-by-one s (events-of b))))
-  told-as-handed = rw (answers-are s (events-of b)) (only-shifts-are-lines (run (view s) (events-of b)))
+  told-as-handed = rw (engine-runs s (events-of b) v .answers) (only-shifts-are-lines (run (view s) (events-of b)))
 
-  left-as-handed : Valid s → left-by s b ≡ left-after s (events-of b)
-  left-as-handed v = sym (session-left s (events-of b) v)
+  left-as-handed : left-by s b ≡ left-after s (events-of b)
+  left-as-handed = sym (engine-runs s (events-of b) v .session)
 
 -- ---- fed in one buffer
 module _ {s : Session} {b : List ℕ} {out : List ℤ} {r : Fed} {now : List ℤ} (f : FedWith s b out r now) where
@@ -66,7 +71,7 @@ buffers-alike s b d v a out lent r q now then f g =
       other = told s d;
       one-told = told-by f;
       other-told = told-by g;
-      lines = told-as-handed s b ∙ rw (h .lines) (sym (told-as-handed s d));
+      lines = told-as-handed s b v ∙ rw (h .lines) (sym (told-as-handed s d v));
       session = session-by f ∙ left-as-handed s b v ∙ h .session ∙ sym (session-by g ∙ left-as-handed s d v);
     }
 
@@ -75,7 +80,7 @@ pub chunks-as-handed : ChunksAsHanded
 chunks-as-handed s cs v w =
     let one = one-buffer s cs v w in
     record {
-      lines = ap only-shifts (one .numbers) ∙ told-as-handed s (all-bytes cs);
+      lines = ap only-shifts (one .numbers) ∙ told-as-handed s (all-bytes cs) v;
       session = one .session ∙ left-as-handed s (all-bytes cs) v;
     }
 

@@ -6,14 +6,13 @@ use lib.IntN.{ℤ}
 use lib.ListN.{length}
 use Rattle.method.specs.declared.Side.the-variants.{Up, Down}
 use Rattle.method.specs.words.Types.{State}
-use Rattle.method.specs.words.Tables.{opened}
+use Rattle.method.specs.words.Tables.{opened, TableAnswered}
 use Rattle.method.specs.words.Shifts.{Each, count}
-use Rattle.method.specs.words.Sessions.{Answer, joined}
+use Rattle.method.specs.words.Sessions.{Answer, AnswersInWords, joined}
 use Rattle.method.specs.laws.Seen.{Shifted}
 use Rattle.method.specs.told.Rows.{rows-of-all, numbers-of}
 use Rattle.method.specs.told.Program.{events-of}
 use Rattle.method.specs.computed.Table.{opening}
-use Rattle.method.specs.computed.Relation.{Answers, reached}
 use Rattle.rows.specs.Buffer.{written}
 use Rattle.corridor.specs.declared.Session.{Session}
 use Rattle.corridor.specs.declared.RowsAnswer.{RowsAnswer}
@@ -24,11 +23,10 @@ use Rattle.corridor.specs.Engine.{one-by-one}
 
 -- r is handed back and `now` stands in the buffer, after the answers rs to the byte strings bs, from the opening state o
 pub record Rightly (o : State) (bs : List (List ℕ)) (rs : List Answer) (out : List ℤ) (r : Fed) (now : List ℤ) : Type 0 where
-  -- rule 2: the answers are the right ones, they are what is told, and the session's view is the state that they leave
-  pub right : Answers o bs rs
+  -- rule 2: the answers are the method's, the session shows the state that they leave, and they are what is told
+  pub right : AnswersInWords o bs rs (view (r .session))
   pub counted : r .answer ≡ RowsAnswer.Written (length (numbers-of (rows-of-all rs)))
   pub told : now ≡ written out 0 (numbers-of (rows-of-all rs))
-  pub left : view (r .session) ≡ reached o bs rs
   -- rule 3: each line of the session's view is the opening one after as many shifts of each side
   pub shifted : Each (Shifted (count Up (joined rs)) (count Down (joined rs))) (o .lines) (view (r .session) .lines)
 
@@ -36,7 +34,7 @@ pub record Rightly (o : State) (bs : List (List ℕ)) (rs : List Answer) (out : 
 -- that `event` gives to the pieces one by one. [stepwise-is-right]
 abbrev pub StepwiseIsRight : Type 0
 StepwiseIsRight =
-    (table : List ℕ) (o : State) → opening table ≡ opened o → (b : List ℕ) (out : List ℤ) → room (length b) ≤ length out
+    (table : List ℕ) (o : State) → TableAnswered table (opened o) → (b : List ℕ) (out : List ℤ) → room (length b) ≤ length out
     → let s : Session = opened-session (opening table) .session in
     (r : Fed) (now : List ℤ) → r ≡ fed s (length out) b → now ≡ fed-into s out b
     → Rightly o (events-of b) (one-by-one s (events-of b)) out r now

@@ -28,7 +28,7 @@ use Rattle.corridor.specs.View.{view, no-session, opened-session, Valid}
 use Rattle.corridor.specs.Feeding.{answers-told, told, left-by}
 use Rattle.corridor.specs.Closing.{closing-numbers}
 use Rattle.corridor.proofs.Views.{view-put}
-use Rattle.corridor.proofs.Theorems.{valid-open}
+use Rattle.corridor.proofs.Theorems.{valid-opened}
 use Rattle.corridor.proofs.Chunks.{told-fits, valid-left}
 use Rattle.chunks.specs.declared.Told.{Told}
 use Rattle.chunks.specs.Answered.{answered}
@@ -99,7 +99,7 @@ module _ (table events : List ℕ) (out : List ℤ) (enough : room (length event
     last = left-by first events
 
     pub first-valid : Valid first
-    first-valid = rw eo (valid-open table)
+    first-valid = valid-opened table eo said
 
     pub last-valid : Valid last
     last-valid = valid-left first events first-valid

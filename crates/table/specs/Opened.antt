@@ -1,5 +1,5 @@
 -- What the code hands back for the method's answer to a table: the answer, and beside it the opened lines in 32 places and the header's
--- numbers. Where the table is refused, no lines, end 0, no shifts, and the least hold and near share stand beside the answer.
+-- numbers. Where the table is refused, no lines stand beside the answer, and every number is 0.
 use lib.ListN.{length, replicate}
 use Rattle.numbers.specs.Arrays.{padded}
 use Rattle.method.specs.words.Types.{blank}
@@ -24,7 +24,7 @@ opened-as (refused why line) =
       lines = replicate 32 blank;
       count = 0;
       end = record { 0 = 0 };
-      hold = record { 0 = 1 };
+      hold = record { 0 = 0 };
       most = 0;
-      near = record { 0 = 1 };
+      near = record { 0 = 0 };
     }

@@ -118,8 +118,8 @@ fn open_line(
 
 // ---- the whole table
 
-// The answer, and beside it, where a session is opened, its lines and the header's numbers; where it is refused, no lines, end 0, no
-// shifts, and the least hold and near share.
+// The answer, and beside it, where a session is opened, its lines and the header's numbers; where it is refused, no lines, and every
+// number 0. No table that opens may say hold seconds 0, so that those numbers are no session's.
 pub struct Opened {
     pub answer: TableAnswer,
     pub lines: [Line; 32],
@@ -138,9 +138,9 @@ fn refused(why: TableReason, line: u32) -> Opened
         lines: [BLANK; 32],
         count: 0,
         end: Seconds(0),
-        hold: Seconds(1),
+        hold: Seconds(0),
         most: 0,
-        near: Millionths(1),
+        near: Millionths(0),
     }
 }
 

@@ -21,7 +21,7 @@ unfoldable pub place-of : ℕ → List ℕ → ℕ
 place-of id [] = 0
 place-of id (j ∷ ids) = cond (eqb j id) 0 (suc (place-of id ids))
 
--- "Event order: 12, 10, 11, 13, 14; a tick meets neither 13 nor 14."
+-- The first test that fails says the refusal, in the order of METHOD 20: 12, 10, 11 and, for a quote only, 13, 14.
 unfoldable pub timely : Seconds → Seconds → Seconds → Verdict → Verdict
 timely end clock t onward =
     demand (leb (t .0) (end .0)) (Verdict.Refused EventReason.AfterEnd)

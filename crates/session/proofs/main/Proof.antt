@@ -1,7 +1,7 @@
 -- `session::main` meets its contract. Assumes nothing.
 use borrow.Author.Needs.{needs}
 use lib.ListN.{take}
-use Rattle.corridor.proofs.Theorems.{valid-open}
+use Rattle.corridor.proofs.Theorems.{valid-opened}
 use Rattle.session.proofs.main.Statement.{statement}
 use Rattle.session.proofs.main.Tie as tie
 
@@ -33,7 +33,7 @@ enum-told : tie.Need-enum-told
 enum-told c = search needs
 
 answer-all-requires : tie.Need-answer-all-requires
-answer-all-requires c κs = rw (c .before .before .before .«open» .ensures) (valid-open (take (c .before .before .before .before .before .before .read-table .result) (c .before .before .before .before .before .before .read-table .last .0)))
+answer-all-requires c κs = valid-opened (take (c .before .before .before .before .before .before .read-table .result) (c .before .before .before .before .before .before .read-table .last .0)) (c .before .before .before .«open» .ensures) (c .before .enum-told .given .1)
 
 returns : tie.Need-returns
 returns c = tt
