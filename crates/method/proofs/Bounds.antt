@@ -6,7 +6,7 @@ use lib.Signed.{_≤ℤ_}
 use Rattle.numbers.proofs.Halves.{zarith, add-is, sub-is}
 use Rattle.numbers.proofs.Linear.{mul-mono}
 use Rattle.numbers.proofs.Rounding.{floor-mono, ceiling-mono}
-use Rattle.method.specs.words.Types.{Side, Up, Down, other, Steps, Terms, Market}
+use Rattle.method.specs.words.Types.{Side, Up, Down, Steps, Terms, Market}
 use Rattle.method.specs.words.Bounds.{factor, interest, bound}
 use Rattle.method.specs.computed.Shift.{moved}
 
@@ -17,6 +17,10 @@ interest-mono Up f h = ceiling-mono 1_000_000_000 (mul-mono f h)
 interest-mono Down f h = floor-mono 1_000_000_000 (mul-mono f h)
 
 -- ---- a shift leaves the other side's interest bound exactly as it is: centre c, half-width h, half-move k
+abbrev pub other : Side → Side
+other Up = Down
+other Down = Up
+
 low-kept : (c h k : ℤ) → c +ℤ k -ℤ (h +ℤ k) ≡ c -ℤ h
 low-kept c h k = omega (zarith, add-is c k, add-is h k, sub-is (c +ℤ k) (h +ℤ k), sub-is c h)
 

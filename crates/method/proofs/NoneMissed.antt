@@ -6,12 +6,13 @@ use mathlib.Core.List.{List, [], _∷_, List·Memᴰ·head, List·Memᴰ·tail}
 use Prim.Native.Nat.{ℕ, zero, suc, _-_, _≤_, _<_}
 use native.Mathlib.Omega.{arith}
 use lib.ListN.{length}
-use Rattle.method.specs.words.Types.{Side, Up, Down, other, Seconds, Hold, Since, ShiftLine, Due, State}
+use Rattle.method.specs.words.Types.{Side, Up, Down, Seconds, Hold, Since, ShiftLine, Due, State}
 use Rattle.method.specs.words.Ranges.{Every}
 use Rattle.method.specs.words.Holds.{Stands, due-at, Done, remaining}
 use Rattle.method.specs.laws.Seen.{hold-at, Answered, by-shift, all-made}
 use Rattle.method.specs.computed.Shift.{shifted, onward}
 use Rattle.method.specs.computed.Relation.{Calls}
+use Rattle.method.proofs.Bounds.{other}
 use Rattle.method.proofs.EveryLine.{onward-keeps}
 use Rattle.method.proofs.HoldLife.{Judged, onward-life, held-pressed}
 use Rattle.method.proofs.FirstFound.{not-later}

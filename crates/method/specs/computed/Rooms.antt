@@ -10,6 +10,7 @@ use Rattle.numbers.specs.Ranges.{Within, Between, Span}
 use Rattle.method.specs.words.Types.{Up, Down, Terms, Market, Limits, Price, Absent, Given, Book, Hold, Idle, Since, Holds, Line, Event, Damaged, Tick, Quoted, seconds, State}
 use Rattle.method.specs.words.Ranges.{permits-negative, Every}
 use Rattle.method.specs.words.Bounds.{bound}
+use Rattle.method.specs.words.Opening.{empty-book}
 
 -- ---- a line; the factors are those up to the cap
 pub record FactorsIn (t : Terms) : Type 0 where
@@ -41,9 +42,6 @@ pub record LimitsIn (t : Terms) (m : Market) (k : Limits) : Type 0 where
   pub over-centre : (m .centre .0) ≤ℤ (k .upper .0)
   pub under-centre : (k .lower .0) ≤ℤ (m .centre .0)
   pub floor : Floor k (t .flags)
-
-abbrev pub empty-book : Book
-empty-book = record { bid = Absent; ask = Absent }
 
 abbrev pub no-holds : Holds
 no-holds = record { up = Idle; down = Idle }

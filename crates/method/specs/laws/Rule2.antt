@@ -11,9 +11,9 @@ use Rattle.method.specs.words.Ranges.{Every}
 use Rattle.method.specs.words.Holds.{Stands, Done}
 use Rattle.method.specs.words.Sessions.{Serves, Follows, Answer, AnswersInWords, joined}
 use Rattle.method.specs.words.Rules.{Opens, AfterAny, EverySession}
+use Rattle.method.specs.words.Opening.{empty-book}
 use Rattle.method.specs.laws.Seen.{AnyAccepted, Fixed, hold-at, HoldsExact, Rising, Answered, AtOnce}
 use Rattle.method.specs.laws.Stages.{CalledFor, Reported}
-use Rattle.method.specs.computed.Rooms.{empty-book}
 
 -- An accepted event at once, its shifts counted as in rule 3: the lines, their books, the shifts left and the clock.
 -- (METHOD 24.8, 24.9; rule2-at-once)

@@ -5,7 +5,7 @@ use Prim.Native.Nat.{ℕ}
 use lib.IntN.{ℤ, pos, _+ℤ_, _-ℤ_, _*ℤ_, natAbs}
 use lib.Signed.{ltZ}
 use Rattle.numbers.specs.Rounding.{floor, ceiling}
-use Rattle.method.specs.words.Types.{Steps, Millionths, Key, Contract, Up, Down, Terms, Market, Limits, Absent, Idle, Line, steps}
+use Rattle.method.specs.words.Types.{Steps, Millionths, Key, Contract, Up, Down, Terms, Market, Limits, Absent, Book, Idle, Line, steps}
 use Rattle.method.specs.words.Ranges.{permits-negative}
 use Rattle.method.specs.words.Growth.{rate-at, exponent, factors-of}
 use Rattle.method.specs.words.Bounds.{bound}
@@ -56,13 +56,16 @@ floored true k = k
 floored false k = cond (ltZ (k .lower .0) (pos 1)) (record { upper = k .upper; lower = steps (pos 1); frozen = true }) k
 
 -- with an empty book there is no pressure yet, and so no hold (METHOD 9.5)
+abbrev pub empty-book : Book
+empty-book = record { bid = Absent; ask = Absent }
+
 unfoldable pub fresh-line : Terms → Market → Limits → Line
 fresh-line t m k =
     record {
       terms = t;
       market = m;
       limits = floored (permits-negative (t .flags)) k;
-      book = record { bid = Absent; ask = Absent };
+      book = empty-book;
       holds = record { up = Idle; down = Idle };
     }
 

@@ -57,10 +57,6 @@ pub use Rattle.method.specs.declared.ReportAnswer.{ReportAnswer}
 pub use Rattle.method.specs.declared.Closing.{Closing}
 pub use Rattle.method.specs.declared.Row.{Row}
 
-abbrev pub other : Side → Side
-other Up = Down
-other Down = Up
-
 -- ---- a number with its unit
 abbrev pub steps : ℤ → Steps
 steps z = record { 0 = z }
