@@ -43,3 +43,4 @@ pub mod Looks
 pub mod Thinning
 pub mod Acceptable
 pub mod Ticks
+pub mod Text

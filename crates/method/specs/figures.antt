@@ -6,3 +6,4 @@ pub mod Fields
 pub mod Pressing
 pub mod Reported
 pub mod Edges
+pub mod Printed

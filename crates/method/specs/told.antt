@@ -4,3 +4,4 @@ pub mod Questions
 pub mod Report
 pub mod Rows
 pub mod Program
+pub mod Text

@@ -13,41 +13,42 @@ use Rattle.method.specs.declared.Row.the-variants as Row
 use Rattle.method.specs.told.Rows.{row-numbers, numbers-of}
 use Rattle.rows.specs.Buffer.{written}
 
-module _ (out : List ℤ) (at : ℕ) (xs : List ℤ) (i : ℕ) {now : List ℤ} (copied : now ≡ paste out at xs i) where
-  pub one-more : (z : ℤ) {x : ℤ} → x ≡ getD xs i z → at + i < length out → i < length xs → set now (at + i) x ≡ paste out at xs (i + 1)
-  one-more z same h g = rw (copied, same, add-one i) (paste-suc out at xs i z h g)
+module _ {A : Type 0} where
+  module _ (out : List A) (at : ℕ) (xs : List A) (i : ℕ) {now : List A} (copied : now ≡ paste out at xs i) where
+    pub one-more : (z : A) {x : A} → x ≡ getD xs i z → at + i < length out → i < length xs → set now (at + i) x ≡ paste out at xs (i + 1)
+    one-more z same h g = rw (copied, same, add-one i) (paste-suc out at xs i z h g)
 
-  pub all-copied : i ≡ length xs → now ≡ written out at xs
-  all-copied last = copied ∙ rw (last, take-length xs)
+    pub all-copied : i ≡ length xs → now ≡ written out at xs
+    all-copied last = copied ∙ rw (last, take-length xs)
 
-pub nothing-written : (out : List ℤ) (at : ℕ) → out ≡ written out at []
-nothing-written out at = paste-zero out at []
+  pub nothing-written : (out : List A) (at : ℕ) → out ≡ written out at []
+  nothing-written out at = paste-zero out at []
 
-module _ (out : List ℤ) (at : ℕ) (xs : List ℤ) (room : at + length xs ≤ length out) where
-  head-long : length (take at out ++ xs) ≡ at + length xs
-  head-long = length-append (take at out) xs ∙ ap (λ (n : ℕ). n + length xs) (length-take-le at out (omega arith))
+  module _ (out : List A) (at : ℕ) (xs : List A) (room : at + length xs ≤ length out) where
+    head-long : length (take at out ++ xs) ≡ at + length xs
+    head-long = length-append (take at out) xs ∙ ap (λ (n : ℕ). n + length xs) (length-take-le at out (omega arith))
 
-  pub written-long : length (written out at xs) ≡ length out
-  written-long = omega (arith, length-append (take at out ++ xs) (drop (at + length xs) out), head-long, length-drop (at + length xs) out)
+    pub written-long : length (written out at xs) ≡ length out
+    written-long = omega (arith, length-append (take at out ++ xs) (drop (at + length xs) out), head-long, length-drop (at + length xs) out)
 
-  rest-kept : (n : ℕ) → drop (at + length xs + n) (written out at xs) ≡ drop (at + length xs + n) out
-  rest-kept n =
-      sym (drop-drop n (at + length xs) (written out at xs))
-      ∙ ap (drop n) (drop-at (take at out ++ xs) (drop (at + length xs) out) (at + length xs) head-long)
-      ∙ drop-drop n (at + length xs) out
+    rest-kept : (n : ℕ) → drop (at + length xs + n) (written out at xs) ≡ drop (at + length xs + n) out
+    rest-kept n =
+        sym (drop-drop n (at + length xs) (written out at xs))
+        ∙ ap (drop n) (drop-at (take at out ++ xs) (drop (at + length xs) out) (at + length xs) head-long)
+        ∙ drop-drop n (at + length xs) out
 
-  -- what is written next to what was written is written with it
-  pub written-on : (ys : List ℤ) → written (written out at xs) (at + length xs) ys ≡ written out at (xs ++ ys)
-  written-on ys =
-      rw
-      (take-at (take at out ++ xs) (drop (at + length xs) out) (at + length xs) head-long, rest-kept (length ys), length-append xs ys)
-      (rw (append-assoc (take at out) xs ys, add-assoc at (length xs) (length ys)))
+    -- what is written next to what was written is written with it
+    pub written-on : (ys : List A) → written (written out at xs) (at + length xs) ys ≡ written out at (xs ++ ys)
+    written-on ys =
+        rw
+        (take-at (take at out ++ xs) (drop (at + length xs) out) (at + length xs) head-long, rest-kept (length ys), length-append xs ys)
+        (rw (append-assoc (take at out) xs ys, add-assoc at (length xs) (length ys)))
 
--- what is written into the part from `at` on
-pub written-rest : (out : List ℤ) (at : ℕ) (xs : List ℤ) → take at out ++ written (drop at out) 0 xs ≡ written out at xs
-written-rest out at xs =
-    sym (append-assoc (take at out) xs (drop (0 + length xs) (drop at out)))
-    ∙ ap (λ (k : ℕ). take at out ++ xs ++ drop k (drop at out)) (zero-add (length xs)) ∙ ap (λ (ys : List ℤ). take at out ++ xs ++ ys) (drop-drop (length xs) at out)
+  -- what is written into the part from `at` on
+  pub written-rest : (out : List A) (at : ℕ) (xs : List A) → take at out ++ written (drop at out) 0 xs ≡ written out at xs
+  written-rest out at xs =
+      sym (append-assoc (take at out) xs (drop (0 + length xs) (drop at out)))
+      ∙ ap (λ (k : ℕ). take at out ++ xs ++ drop k (drop at out)) (zero-add (length xs)) ∙ ap (λ (ys : List A). take at out ++ xs ++ ys) (drop-drop (length xs) at out)
 
 -- ---- rows in numbers
 pub row-long : (r : Row) → length (row-numbers r) ≡ 6

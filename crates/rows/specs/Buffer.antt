@@ -1,12 +1,12 @@
--- A buffer of numbers that is written from a place on.
+-- A buffer that is written from a place on: of numbers, or of bytes.
 use mathlib.Core.List.{List, _++_}
 use Prim.Native.Nat.{ℕ, _+_, _*_, _/_}
-use lib.IntN.{ℤ}
 use lib.ListN.{length, take, drop}
 
 -- `out` with xs in it from `at` on, and all else as it was
-abbrev pub written : List ℤ → ℕ → List ℤ → List ℤ
-written out at xs = take at out ++ xs ++ drop (at + length xs) out
+module _ {A : Type 0} where
+  abbrev pub written : List A → ℕ → List A → List A
+  written out at xs = take at out ++ xs ++ drop (at + length xs) out
 
 -- the numbers that so many bytes of events may come to: six a row, a row for each event, and so many rows more
 abbrev pub room : ℕ → ℕ → ℕ

@@ -1,5 +1,8 @@
 pub mod Taken
+pub mod Moved
 pub mod Tables
+pub mod Texts
 pub mod Going
 pub mod HeaderAlone
+pub mod InNumbers
 pub mod WholeInput

@@ -1,76 +1,63 @@
--- What the program prints for a table and chunks of events is what the method says of the whole input. Assumes nothing.
+-- All bytes that the program hands to write are the output of the whole input. Assumes nothing.
 use mathlib.Core.Path.{_≡_, refl, sym, ap, _∙_}
-use mathlib.Core.Bool.{Bool, true, false, cond}
-use mathlib.Core.List.{List, _++_, map}
+use mathlib.Core.List.{List, [], _∷_, _++_, map, append-assoc, append-nil}
 use Prim.Native.Nat.{ℕ}
-use native.Mathlib.Omega.{arith}
-use borrow.Author.Tests.{ltb-true}
-use lib.Dec.{ltb}
-use lib.ListN.{take, drop}
+use lib.IntN.{ℤ}
+use lib.ListN.{take}
+use Rattle.method.specs.declared.Row.{Row}
 use Rattle.method.specs.declared.Row.the-variants as Row
 use Rattle.method.specs.declared.TableAnswer.{TableAnswer}
-use Rattle.method.specs.words.Types.{State}
-use Rattle.method.specs.words.Layout.{header-of, table-length}
-use Rattle.method.specs.words.Tables.{Opening, opened, refused}
+use Rattle.method.specs.declared.TableAnswer.the-variants.{Opened, Refused}
+use Rattle.method.specs.words.Layout.{header-of}
 use Rattle.method.specs.told.Rows.{rows-of-all, closing-row, numbers-of}
 use Rattle.method.specs.told.Program.{events-of}
+use Rattle.method.specs.told.Text.{text-of}
 use Rattle.method.specs.computed.Table.{opening}
-use Rattle.method.specs.computed.Search.{run, finally}
-use Rattle.method.specs.computed.Program.{session-rows, rows-after, program}
+use Rattle.method.specs.computed.Search.{run}
+use Rattle.method.specs.computed.Program.{program}
+use Rattle.method.proofs.Text.{text-append}
 use Rattle.rows.proofs.Buffer.{numbers-append, numbers-one}
+use Rattle.text.specs.Line.{all-text}
+use Rattle.text.proofs.Rows.{all-are}
 use Rattle.corridor.specs.declared.Session.{Session}
-use Rattle.corridor.specs.View.{view, put, no-session, opened-session, Valid}
-use Rattle.corridor.specs.Feeding.{told, left-by, answers-told}
-use Rattle.corridor.specs.Chunks.{all-bytes, WholeButLast}
-use Rattle.corridor.proofs.Views.{view-put}
-use Rattle.corridor.proofs.Theorems.{valid-open}
-use Rattle.corridor.proofs.Joined.{one-buffer}
-use Rattle.session.specs.Reading.{table-end}
+use Rattle.corridor.specs.View.{view, opened-session}
+use Rattle.corridor.specs.Feeding.{told, left-by}
+use Rattle.corridor.specs.Chunks.{all-bytes, told-in, left-in}
 use Rattle.corridor.specs.Closing.{closing-numbers}
-use Rattle.session.specs.Printing.{said-after, printed}
-use Rattle.session.proofs.HeaderAlone.{same-answer, is-refused}
+use Rattle.session.specs.Reading.{table-end}
+use Rattle.session.specs.Printing.{texts, texts-after, WholeInput}
+use Rattle.session.proofs.InNumbers.{numbers-in, whole-in-numbers}
 
--- a state's rows, said of the session that holds it
-state-told : (x : State) (b : List ℕ) → told (put no-session x) b ++ closing-numbers (left-by (put no-session x) b) ≡ numbers-of (session-rows x (events-of b))
-unfolding session-rows
-state-told x b =
-    let s : Session = put no-session x in
-    let events : List (List ℕ) = events-of b in
-    ap (λ (y : State). told s b ++ numbers-of (map closing-row (y .lines))) (view-put s (finally (view s) events))
-    ∙ ap (λ (y : State). answers-told y events ++ numbers-of (map closing-row (finally y events .lines))) (view-put no-session x)
-    ∙ sym (numbers-append (rows-of-all (run x events)) (map closing-row (finally x events .lines)))
+-- the rows of each chunk in turn, and then the closing rows: their text is what is handed to write, and their numbers are those of `InNumbers`
+abbrev rows-in : Session → List (List ℕ) → List Row
+rows-in s [] = map closing-row (view s .lines)
+rows-in s (c ∷ cs) = rows-of-all (run (view s) (events-of c)) ++ rows-in (left-by s c) cs
 
-after-opening : (x : Opening) (chunks : List (List ℕ)) → (opened-session x .answer ≡ TableAnswer.Opened → Valid (opened-session x .session)) → WholeButLast chunks
-    → said-after x chunks ≡ numbers-of (rows-after x (events-of (all-bytes chunks)))
-unfolding opened-session rows-after
-after-opening (opened s) chunks v w =
-    let one = one-buffer (put no-session s) chunks (v refl) w in
-    rw (one .numbers, one .session) (state-told s (all-bytes chunks))
-after-opening (refused why line) chunks v w = sym (numbers-one (Row.RefusedTable why line))
+texts-are : (s : Session) (chunks : List (List ℕ)) → all-bytes (texts s chunks) ≡ text-of (rows-in s chunks)
+texts-are s [] = append-nil (text-of (map closing-row (view s .lines)))
+texts-are s (c ∷ cs) =
+    rw (texts-are (left-by s c) cs) (sym (text-append (rows-of-all (run (view s) (events-of c))) (rows-in (left-by s c) cs)))
 
-after-refusal : (x : Opening) (chunks : List (List ℕ)) (events : List (List ℕ)) → ((s : State) → x ≡ opened s → ⊥)
-    → said-after x chunks ≡ numbers-of (rows-after x events)
-unfolding opened-session rows-after
-after-refusal (opened s) chunks events never = absurd (never s refl)
-after-refusal (refused why line) chunks events never = sym (numbers-one (Row.RefusedTable why line))
+numbers-are : (s : Session) (chunks : List (List ℕ)) → told-in s chunks ++ closing-numbers (left-in s chunks) ≡ numbers-of (rows-in s chunks)
+unfolding told-in left-in
+numbers-are s [] = refl
+numbers-are s (c ∷ cs) =
+    append-assoc (told s c) (told-in (left-by s c) cs) (closing-numbers (left-in (left-by s c) cs))
+    ∙ ap (λ (ns : List ℤ). told s c ++ ns) (numbers-are (left-by s c) cs)
+    ∙ sym (numbers-append (rows-of-all (run (view s) (events-of c))) (rows-in (left-by s c) cs))
 
-module _ (input : List ℕ) (chunks : List (List ℕ)) (w : WholeButLast chunks) where
-  abbrev size : ℕ
-  size = table-length (header-of input)
+-- numbers of rows that are the same have the same text
+same-text : (rows others : List Row) → numbers-of rows ≡ numbers-of others → text-of rows ≡ text-of others
+same-text rows others e = sym (all-are rows) ∙ ap all-text e ∙ all-are others
 
-  by-counts : (t : Bool) → ltb 1_448 size ≡ t → all-bytes chunks ≡ drop (cond t 40 size) input
-      → printed (take (cond t 40 size) input) chunks ≡ numbers-of (rows-after (opening (take size input)) (events-of (drop size input)))
-  by-counts true t e =
-      let many = ltb-true 1_448 size t in
-      rw (same-answer input many 40 size (omega arith) (omega arith))
-      (after-refusal (opening (take size input)) chunks (events-of (drop size input)) (is-refused input many size (omega arith)))
-  by-counts false t e =
-      after-opening (opening (take size input)) chunks (valid-open (take size input)) w
-      ∙ ap (λ (b : List ℕ). numbers-of (rows-after (opening (take size input)) (events-of b))) e
+in-text : (answer : TableAnswer) (s : Session) (chunks : List (List ℕ)) (rows : List Row) → numbers-in answer s chunks ≡ numbers-of rows
+    → all-bytes (texts-after answer s chunks) ≡ text-of rows
+in-text Opened s chunks rows e = texts-are s chunks ∙ same-text (rows-in s chunks) rows (sym (numbers-are s chunks) ∙ e)
+in-text (Refused why line) s chunks rows e =
+    let row : Row = Row.RefusedTable why line in
+    same-text (row ∷ []) rows (numbers-one row ∙ e)
 
--- The program reads an input up to `table-end` as the table, and then the rest in chunks of whole events, of which only the last may be
--- cut. The numbers that it prints are those of the rows of the whole input.
-pub whole-input : (input : List ℕ) (chunks : List (List ℕ)) → WholeButLast chunks → all-bytes chunks ≡ drop (table-end (header-of input)) input
-    → printed (take (table-end (header-of input)) input) chunks ≡ numbers-of (program input)
-unfolding program table-end
-whole-input input chunks w = by-counts input chunks w (ltb 1_448 (table-length (header-of input))) refl
+pub whole-input : WholeInput
+whole-input input chunks w e =
+    let x = opened-session (opening (take (table-end (header-of input)) input)) in
+    in-text (x .answer) (x .session) chunks (program input) (whole-in-numbers input chunks w e)

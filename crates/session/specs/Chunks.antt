@@ -1,11 +1,12 @@
--- What the program knows of the events that it has read so far.
+-- What the program knows of the events that it has answered so far.
 use mathlib.Core.Path.{_≡_}
 use mathlib.Core.List.{List}
 use Prim.Native.Nat.{ℕ}
 use Rattle.corridor.specs.declared.Session.{Session}
-use Rattle.corridor.specs.Feeding.{left-by}
+use Rattle.corridor.specs.Chunks.{WholeButLast, left-in}
 
--- the session that some bytes, read as events, leave
+-- the session that some chunks leave, of which only the last may end in a cut event
 pub record Reached (first s : Session) : Type 0 where
-  pub bytes : List ℕ
-  pub left : s ≡ left-by first bytes
+  pub chunks : List (List ℕ)
+  pub whole : WholeButLast chunks
+  pub left : s ≡ left-in first chunks

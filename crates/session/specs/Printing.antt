@@ -1,25 +1,53 @@
--- What the program prints, in numbers: for the bytes that it reads as the table, and the chunks that it reads as events.
-use mathlib.Core.List.{List, _++_}
+-- What the program prints: the texts that its functions make, in the order in which it hands them to write; and that together they are the
+-- output that the method gives for the whole input.
+use mathlib.Core.Path.{_≡_}
+use mathlib.Core.List.{List, [], _∷_, map}
 use Prim.Native.Nat.{ℕ}
-use lib.IntN.{ℤ}
+use lib.ListN.{take, drop}
+use Rattle.io.specs.Counts.{Counts}
 use Rattle.method.specs.declared.TableAnswer.{TableAnswer}
 use Rattle.method.specs.declared.TableAnswer.the-variants.{Opened, Refused}
 use Rattle.method.specs.declared.Row.the-variants as Row
-use Rattle.method.specs.words.Tables.{Opening}
-use Rattle.method.specs.told.Rows.{row-numbers}
+use Rattle.method.specs.words.Layout.{header-of}
+use Rattle.method.specs.told.Rows.{rows-of-all, closing-row}
+use Rattle.method.specs.told.Program.{events-of}
+use Rattle.method.specs.told.Text.{line-text, text-of, output}
 use Rattle.method.specs.computed.Table.{opening}
+use Rattle.method.specs.computed.Search.{run}
 use Rattle.corridor.specs.declared.Session.{Session}
-use Rattle.corridor.specs.View.{opened-session}
-use Rattle.corridor.specs.Chunks.{told-in, left-in}
-use Rattle.corridor.specs.Closing.{closing-numbers}
+use Rattle.corridor.specs.View.{view, opened-session}
+use Rattle.corridor.specs.Feeding.{left-by}
+use Rattle.corridor.specs.Chunks.{all-bytes, WholeButLast}
+use Rattle.session.specs.Reading.{table-end}
 
--- a refusal's row and nothing more, or the rows of each chunk in turn and then the closing rows
-abbrev pub said : TableAnswer → Session → List (List ℕ) → List ℤ
-said Opened s chunks = told-in s chunks ++ closing-numbers (left-in s chunks)
-said (Refused why line) s chunks = row-numbers (Row.RefusedTable why line)
+-- ---- what the functions of `answers` make
+-- a buffer whose first bytes are a text
+pub record Begins (buffer : List ℕ) (size : ℕ) (text : List ℕ) : Type 0 where
+  pub long : Counts size buffer
+  pub same : take size buffer ≡ text
 
-abbrev pub said-after : Opening → List (List ℕ) → List ℤ
-said-after x chunks = said (opened-session x .answer) (opened-session x .session) chunks
+abbrev pub told-text : Session → List ℕ → List ℕ
+told-text s chunk = text-of (rows-of-all (run (view s) (events-of chunk)))
 
-abbrev pub printed : List ℕ → List (List ℕ) → List ℤ
-printed table chunks = said-after (opening table) chunks
+abbrev pub closing-text : Session → List ℕ
+closing-text s = text-of (map closing-row (view s .lines))
+
+-- ---- what is handed to write, one text after another
+-- of an opened session: each chunk's answers, and after the last chunk the closing lines
+abbrev pub texts : Session → List (List ℕ) → List (List ℕ)
+texts s [] = closing-text s ∷ []
+texts s (chunk ∷ chunks) = told-text s chunk ∷ texts (left-by s chunk) chunks
+
+-- of a refused table: its line, and nothing more
+abbrev pub texts-after : TableAnswer → Session → List (List ℕ) → List (List ℕ)
+texts-after Opened s chunks = texts s chunks
+texts-after (Refused why line) s chunks = line-text (Row.RefusedTable why line) ∷ []
+
+abbrev pub printed : List ℕ → List (List ℕ) → List (List ℕ)
+printed table chunks = texts-after (opened-session (opening table) .answer) (opened-session (opening table) .session) chunks
+
+-- The program reads an input up to `table-end` as the table, and then the rest in chunks of whole events, of which only the last may be
+-- cut. All bytes that it hands to write are then the output of the whole input, however it is cut into chunks.
+abbrev pub WholeInput : Type 0
+WholeInput = (input : List ℕ) (chunks : List (List ℕ)) → WholeButLast chunks → all-bytes chunks ≡ drop (table-end (header-of input)) input
+    → all-bytes (printed (take (table-end (header-of input)) input) chunks) ≡ output input

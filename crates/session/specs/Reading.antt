@@ -1,10 +1,18 @@
--- How much of the input is read as the table.
+-- How much of the input is read as the table, and how far a slice is filled.
 use mathlib.Core.Bool.{cond}
+use mathlib.Core.List.{List}
 use Prim.Native.Nat.{ℕ}
 use lib.Dec.{ltb}
+use Rattle.io.specs.Counts.{Counts}
 use Rattle.method.specs.declared.Header.{Header}
 use Rattle.method.specs.words.Layout.{table-length}
+use Rattle.session.specs.declared.Filled.{Filled}
 
 -- as the counts say; where that is more than the longest table, the header by itself
 unfoldable pub table-end : Header → ℕ
 table-end h = cond (ltb 1_448 (table-length h)) 40 (table-length h)
+
+-- no further than the slice goes
+abbrev pub Within : Filled → List ℕ → Type 0
+Within (Filled.To n) room = Counts n room
+Within Filled.Failed room = Unit {0}

@@ -55,10 +55,10 @@ unfoldable pub floored : Bool → Limits → Limits
 floored true k = k
 floored false k = cond (ltZ (k .lower .0) (pos 1)) (record { upper = k .upper; lower = steps (pos 1); frozen = true }) k
 
--- with an empty book there is no pressure yet, and so no hold (METHOD 9.5)
 abbrev pub empty-book : Book
 empty-book = record { bid = Absent; ask = Absent }
 
+-- with an empty book there is no pressure yet, and so no hold (METHOD 9.5)
 unfoldable pub fresh-line : Terms → Market → Limits → Line
 fresh-line t m k =
     record {

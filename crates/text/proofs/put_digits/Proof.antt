@@ -1,19 +1,23 @@
 -- `text::put_digits` meets its contract. Assumes nothing.
 use borrow.Author.Needs.{needs}
-use mathlib.Core.Path.{_≡_}
+use mathlib.Core.Path.{_≡_, refl}
 use Prim.Native.Nat.{_≤_, _-_}
+use native.Mathlib.Omega.{arith}
 use lib.ListN.{length}
+use lib.Seq.{paste, paste-zero}
+use denote.Ref.{now}
+use Rattle.rows.proofs.Buffer.{one-more, all-copied}
 use Rattle.text.proofs.put_digits.Statement.{statement}
 use Rattle.text.proofs.put_digits.Tie as tie
 
 abbrev Inv-loop : tie.InvT-loop
-Inv-loop buffer₀ at digits i₀ buffer i = (i ≤ length digits) × (length buffer ≡ length buffer₀)
+Inv-loop buffer₀ at digits i₀ buffer i = (i ≤ length digits) × (buffer ≡ paste buffer₀ at digits i) × (length buffer ≡ length buffer₀)
 
 abbrev μ-loop : tie.MeasureT-loop
 μ-loop buffer₀ at digits i₀ buffer i = length digits - i
 
 loop-holds : tie.Need-loop-holds Inv-loop μ-loop
-loop-holds c = search needs
+loop-holds c = (omega arith, paste-zero (now (c .args .buffer)) (c .args .at) (now (c .args .digits)), refl)
 
 shared-slice-read-buffer : tie.Need-shared-slice-read-buffer Inv-loop μ-loop
 shared-slice-read-buffer c = search needs
@@ -31,13 +35,22 @@ loop-less : tie.Need-loop-less Inv-loop μ-loop
 loop-less c = search needs
 
 loop-again : tie.Need-loop-again Inv-loop μ-loop
-loop-again c = search needs
+loop-again c =
+    let s = c .before .before .before in
+    let at = c .before .before .loop in (
+      omega arith,
+      one-more (now (s .args .buffer)) (s .args .at) (now (s .args .digits)) (at .i) (at .inv .1) 0 refl (omega arith) (omega arith),
+      search (needs, at .inv .2),
+    )
 
 same-length : tie.Need-same-length Inv-loop μ-loop
-same-length c = search needs
+same-length c = c .before .loop .inv .2
 
 returns : tie.Need-returns Inv-loop μ-loop
-returns c = search needs
+returns c =
+    let s = c .before .before in
+    let at = c .before .loop in
+    all-copied (now (s .args .buffer)) (s .args .at) (now (s .args .digits)) (at .i) (at .inv .1) (omega arith)
 
 pub put-digits-spec : {M : Type 1} → statement M
 put-digits-spec =

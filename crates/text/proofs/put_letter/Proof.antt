@@ -1,7 +1,10 @@
 -- `text::put_letter` meets its contract. Assumes nothing.
 use borrow.Author.Needs.{needs}
+use Prim.Native.Nat.{_+_}
 use native.Mathlib.Omega.{arith}
+use denote.Ref.{now}
 use lib.ListN.{length-set}
+use Rattle.text.proofs.Putting.{put-byte, put-on}
 use Rattle.text.proofs.put_letter.Statement.{statement}
 use Rattle.text.proofs.put_letter.Tie as tie
 
@@ -21,7 +24,11 @@ same-length : tie.Need-same-length
 same-length c = search needs
 
 returns : tie.Need-returns
-returns c = search needs
+returns c =
+    let b = now (c .args .buffer) in
+    let letter = put-byte b (c .args .at) (c .args .letter) (omega arith) in
+    let p = put-on letter (omega arith) (put-byte _ (c .args .at + 1) 32 (simp length-set (omega arith))) in
+    record { buffer = p .buffer; place = omega (arith, p .place) }
 
 pub put-letter-spec : {M : Type 1} → statement M
 put-letter-spec =

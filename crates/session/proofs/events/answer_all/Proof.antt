@@ -1,20 +1,18 @@
 -- `session::events::answer_all` meets its contract. Assumes nothing.
 use borrow.Author.Needs.{needs}
 use native.Mathlib.Omega.{arith}
-use Rattle.session.proofs.Taken.{taken}
-use Rattle.chunks.proofs.Answering.{closing-few}
 use Rattle.session.proofs.Going.{reached-valid}
 use Rattle.session.proofs.events.answer_all.Statement.{statement}
 use Rattle.session.proofs.events.answer_all.Tie as tie
 
 chunk-room-requires : tie.Need-chunk-room-requires
-chunk-room-requires c κs = tt
+chunk-room-requires c κs = search needs
 
 row-room-requires : tie.Need-row-room-requires
-row-room-requires c κs = tt
+row-room-requires c κs = search needs
 
-large-buffer-requires : tie.Need-large-buffer-requires
-large-buffer-requires c κs = tt
+text-room-requires : tie.Need-text-room-requires
+text-room-requires c κs = search needs
 
 slice-aggregate-answer-events : tie.Need-slice-aggregate-answer-events
 slice-aggregate-answer-events c = search needs
@@ -28,25 +26,18 @@ slice-aggregate-answer-events-3 c = search needs
 answer-events-requires : tie.Need-answer-events-requires
 answer-events-requires c κs = search needs
 
-slice-aggregate-closed : tie.Need-slice-aggregate-closed
-slice-aggregate-closed c = search needs
+slice-aggregate-closing : tie.Need-slice-aggregate-closing
+slice-aggregate-closing c = search needs
 
-closed-requires : tie.Need-closed-requires
-closed-requires c κs = (reached-valid (c .before .before .before .before .before .before .before .before .before .before .before .before .pre) (c .before .before .before .before .before .answer-events .ensures .0), omega (arith, c .before .before .before .before .before .answer-events .kept .1 .1 .0, c .before .before .before .before .before .before .before .before .before .before .row-room .ensures))
+slice-aggregate-closing-2 : tie.Need-slice-aggregate-closing-2
+slice-aggregate-closing-2 c = search needs
 
-array-share-prefix-numbers : tie.Need-array-share-prefix-numbers
-array-share-prefix-numbers c =
-    let few = closing-few (c .before .before .before .before .before .before .before .answer-events .result .session) (reached-valid (c .before .before .before .before .before .before .before .before .before .before .before .before .before .before .pre) (c .before .before .before .before .before .before .before .answer-events .ensures .0)) in
-    omega (arith, c .before .closed .ensures .0, c .before .closed .kept .1 .0, c .before .before .before .before .before .before .before .answer-events .kept .1 .1 .0, c .before .before .before .before .before .before .before .before .before .before .before .before .row-room .ensures)
-
-slice-aggregate-rows : tie.Need-slice-aggregate-rows
-slice-aggregate-rows c = taken _ (c .before .before .closed .last .1 .0) (array-share-prefix-numbers (c .before))
-
-slice-aggregate-rows-2 : tie.Need-slice-aggregate-rows-2
-slice-aggregate-rows-2 c = search needs
-
-rows-requires : tie.Need-rows-requires
-rows-requires c κs = search needs
+closing-requires : tie.Need-closing-requires
+closing-requires c κs = (
+  reached-valid (c .before .before .before .before .before .before .before .before .before .before .before .before .before .before .pre) (c .before .before .before .before .before .before .before .answer-events .ensures),
+  omega (arith, c .before .before .before .before .before .before .before .answer-events .kept .1 .1 .0, c .before .before .before .before .before .before .before .before .before .before .before .before .row-room .ensures),
+  omega (arith, c .before .before .before .before .before .before .before .answer-events .kept .1 .1 .1 .0, c .before .before .before .before .before .before .before .before .before .before .before .text-room .ensures),
+)
 
 array-share-prefix-buffer : tie.Need-array-share-prefix-buffer
 array-share-prefix-buffer c = search needs
@@ -55,10 +46,13 @@ slice-aggregate-write-all : tie.Need-slice-aggregate-write-all
 slice-aggregate-write-all c = search needs
 
 write-all-requires : tie.Need-write-all-requires
-write-all-requires c κs = tt
+write-all-requires c κs = search needs
 
 returns : tie.Need-returns
-returns c = tt
+returns c = search needs
+
+returns-2 : tie.Need-returns-2
+returns-2 c = search needs
 
 pub answer-all-spec : {M : Type 1} → statement M
 answer-all-spec =
@@ -66,18 +60,16 @@ answer-all-spec =
     (tie.spec
     chunk-room-requires
     row-room-requires
-    large-buffer-requires
+    text-room-requires
     slice-aggregate-answer-events
     slice-aggregate-answer-events-2
     slice-aggregate-answer-events-3
     answer-events-requires
-    slice-aggregate-closed
-    closed-requires
-    array-share-prefix-numbers
-    slice-aggregate-rows
-    slice-aggregate-rows-2
-    rows-requires
+    slice-aggregate-closing
+    slice-aggregate-closing-2
+    closing-requires
     array-share-prefix-buffer
     slice-aggregate-write-all
     write-all-requires
-    returns)
+    returns
+    returns-2)

@@ -1,10 +1,10 @@
--- `session::table_end` meets its contract. Assumes nothing.
+-- `session::reading::table_end` meets its contract. Assumes nothing.
 use borrow.Author.Needs.{needs}
 use borrow.Author.Tests.{lt-ltb, le-ltb}
 use mathlib.Core.Path.{sym}
 use Rattle.session.specs.Reading.{table-end}
-use Rattle.session.proofs.table_end.Statement.{statement}
-use Rattle.session.proofs.table_end.Tie as tie
+use Rattle.session.proofs.reading.table_end.Statement.{statement}
+use Rattle.session.proofs.reading.table_end.Tie as tie
 
 ends-at-requires : tie.Need-ends-at-requires
 ends-at-requires c κs = search needs
