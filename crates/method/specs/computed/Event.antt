@@ -24,17 +24,17 @@ abbrev pub price-of : Bool → ℤ → Price
 price-of true z = Given (steps z)
 price-of false z = Absent
 
--- METHOD 12.1
+-- a tick has nothing but its time and its flag (METHOD 12.1)
 unfoldable pub read-tick : Seconds → ℕ → ℤ → ℤ → Event
 read-tick time id bid ask = demand (eqb id 0 && same bid (pos 0) && same ask (pos 0)) Damaged (Tick time)
 
--- METHOD 12.2
+-- a quote has the prices that its flags say are there (METHOD 12.2)
 unfoldable pub read-quote : Seconds → ℕ → ℕ → ℤ → ℤ → Event
 read-quote time id flags bid ask =
     demand (ltb flags 4 && price-good (bit 0 flags) bid && price-good (bit 1 flags) ask) Damaged
     (Quoted (record { time = time; id = id; bid = price-of (bit 0 flags) bid; ask = price-of (bit 1 flags) ask }))
 
--- METHOD 12.3, 12.7
+-- any other byte string is damaged (METHOD 12.3, 12.7)
 unfoldable pub read : List ℕ → Event
 read b =
     let time : Seconds = seconds (word b 0) in

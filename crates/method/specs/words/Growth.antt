@@ -26,7 +26,7 @@ rate-by-keys (k ∷ keys) days = cond (leb days (k .days)) (pos (k .rate .0)) (r
 unfoldable pub rate-at : List Key → ℕ → ℕ
 rate-at keys days = natAbs (rate-by-keys keys days)
 
--- in billionths (METHOD 5.1)
+-- a year's growth in the logarithm, by the share of the year that is left; in billionths (METHOD 5.1)
 unfoldable pub exponent : ℕ → ℕ → ℕ
 exponent rate days = rate * days * 1_000 / 365
 
@@ -44,11 +44,11 @@ unfoldable pub series : ℕ → ℕ → ℕ
 series y zero = term y zero
 series y (suc k) = series y k + term y (suc k)
 
--- METHOD 6.2
+-- thirteen terms of the exponential series (METHOD 6.2)
 unfoldable pub up-factor : ℕ → ℕ
 up-factor y = series y 12
 
--- METHOD 6.3
+-- one over the up factor, rounded down (METHOD 6.3)
 unfoldable pub down-factor : ℕ → ℕ
 down-factor y = 1_000_000_000_000_000_000 / up-factor y
 

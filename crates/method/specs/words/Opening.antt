@@ -10,11 +10,11 @@ use Rattle.method.specs.words.Ranges.{permits-negative}
 use Rattle.method.specs.words.Growth.{rate-at, exponent, factors-of}
 use Rattle.method.specs.words.Bounds.{bound}
 
--- METHOD 7.1
+-- the size of the spot, or the least price where that is larger (METHOD 7.1)
 unfoldable pub normal-price : Contract → ℤ
 normal-price c = let size : ℤ = pos (natAbs (c .spot .0)) in cond (ltZ size (c .least .0)) (c .least .0) size
 
--- METHOD 7.2
+-- a level's share of the normal price, rounded up (METHOD 7.2)
 unfoldable pub half-width : Contract → Millionths → Steps
 half-width c rate = steps (ceiling (normal-price c *ℤ pos (rate .0)) 1_000_000)
 
@@ -23,7 +23,7 @@ unfoldable pub market-of : Contract → Market
 market-of c =
     record { centre = c .price; half1 = half-width c (c .rate1); half2 = half-width c (c .rate2); half3 = half-width c (c .rate3) }
 
--- METHOD 10.1
+-- half the shift share of the level 1 half-width, rounded down (METHOD 10.1)
 unfoldable pub half-move : Millionths → Steps → Steps
 half-move shift half1 = steps (floor (pos (shift .0) *ℤ half1 .0) 2_000_000)
 
@@ -69,6 +69,6 @@ fresh-line t m k =
       holds = record { up = Idle; down = Idle };
     }
 
--- of a contract, by the table's keys
+-- a contract's exponent, by the table's keys (METHOD 5.1)
 abbrev pub exponent-of : List Key → Contract → ℕ
 exponent-of keys c = exponent (rate-at keys (c .days)) (c .days)

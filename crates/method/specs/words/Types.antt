@@ -1,4 +1,4 @@
--- The data of the method, as src/lib.rt declares them, and the state of a session (METHOD 1, 18.1).
+-- The data of the method, as src/lib.rt declares them, and the state of a session (METHOD 1, 11.9).
 -- A case that several enums have is written behind its enum, as `LineAnswer.Opened`.
 use mathlib.Core.Bool.{Bool, true, false}
 use mathlib.Core.List.{List}
