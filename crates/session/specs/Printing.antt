@@ -1,5 +1,10 @@
 -- What the program prints: the texts that its functions make, in the order in which it hands them to write; and that together they are the
 -- output that the method gives for the whole input.
+--
+-- The contracts of `answers::chunk`, `answers::closing` and `answers::refusal` name these texts, that of `reading::table_end` the end of the
+-- table, and that of `events::answer_events` the session that the chunks leave. Outside of all contracts, and read off the code, are only the
+-- calls of read and write: that `reading::fill` puts the next bytes of the input into a slice, fewer than it has only at the input's end; and
+-- that `print_refusal`, the loop of `answer_events` and `answer_all` hand each text to write, once and in this order.
 use mathlib.Core.Path.{_≡_}
 use mathlib.Core.List.{List, [], _∷_, map}
 use Prim.Native.Nat.{ℕ}
@@ -47,7 +52,7 @@ abbrev pub printed : List ℕ → List (List ℕ) → List (List ℕ)
 printed table chunks = texts-after (opened-session (opening table) .answer) (opened-session (opening table) .session) chunks
 
 -- The program reads an input up to `table-end` as the table, and then the rest in chunks of whole events, of which only the last may be
--- cut. All bytes that it hands to write are then the output of the whole input, however it is cut into chunks.
+-- cut. All bytes that it hands to write are then the output of the whole input, however it is cut into chunks. (METHOD 22)
 abbrev pub WholeInput : Type 0
 WholeInput = (input : List ℕ) (chunks : List (List ℕ)) → WholeButLast chunks → all-bytes chunks ≡ drop (table-end (header-of input)) input
     → all-bytes (printed (take (table-end (header-of input)) input) chunks) ≡ output input

@@ -24,7 +24,7 @@ use Rattle.method.specs.computed.Search.{due-of, ahead, sooner, passed, 
 use Rattle.method.specs.computed.Program.{session-rows, rows-after, program}
 use Rattle.method.specs.figures.Inputs.{sample, tick, empty, bid}
 
--- One row of each kind, with a second side, a sign, a zero and the largest id.
+-- One row of each kind; among their numbers are the largest id, negative ones and 0.
 pub every-kind :
     text-of
     (Row.Shift (record { second = seconds 61; side = Down; id = 4_294_967_295 })

@@ -19,7 +19,7 @@ ascii (letter then more) = code letter ∷ ascii more
 abbrev pub digit : ℕ → ℕ
 digit d = code "0" + d
 
--- the last digit stands after those of n / 10; there are never more digits than turns
+-- The last digit stands after those of n / 10. The turns only bound how often that is asked, and n + 1 of them are always enough.
 unfoldable pub decimal-in : ℕ → ℕ → List ℕ
 decimal-in zero n = []
 decimal-in (suc turns) n =
