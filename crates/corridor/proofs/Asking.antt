@@ -6,9 +6,9 @@ use Prim.Native.Nat.{ℕ}
 use native.Mathlib.Omega.{arith}
 use lib.Dec.{eqb}
 use lib.ListN.{getD}
-use Rattle.method.specs.words.Types.{State, blank, demand}
+use Rattle.method.specs.words.Types.{State, blank}
 use Rattle.method.specs.words.Ranges.{Every}
-use Rattle.method.specs.told.Questions.{known, line-of, limits, placed, place}
+use Rattle.method.specs.told.Questions.{known, line-of, limits, placed, place, demand}
 use Rattle.method.specs.told.Report.{line-report, report}
 use Rattle.corridor.specs.Names.{Steps, Line, EventReason, LimitsAnswer, PlaceAnswer, ReportAnswer}
 use Rattle.corridor.specs.declared.Session.{Session}

@@ -11,7 +11,7 @@ use lib.ListN.{length, getD, set, take, drop}
 use lib.Seq.{getD-set-same, getD-set-other}
 use Rattle.numbers.proofs.Arrays.{passing, all-passed}
 use Rattle.method.specs.words.Types.{State, blank, seconds}
-use Rattle.method.specs.words.Pressure.{hold-of}
+use Rattle.method.specs.words.Holds.{hold-of}
 use Rattle.method.specs.words.Holds.{Stands, Done}
 use Rattle.method.specs.computed.Event.{applied}
 use Rattle.method.specs.computed.Relation.{Calls}

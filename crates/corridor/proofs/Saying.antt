@@ -7,8 +7,8 @@ use native.Mathlib.Omega.{arith}
 use borrow.Author.Tests.{eqb-true, eqb-false, leb-true, ltb-true, ltb-false, lt-ltb, le-ltb}
 use lib.Dec.{eqb, ltb, leb}
 use lib.ListN.{length}
-use Rattle.method.specs.words.Types.{State, demand}
-use Rattle.method.specs.told.Questions.{known}
+use Rattle.method.specs.words.Types.{State}
+use Rattle.method.specs.told.Questions.{known, demand}
 use Rattle.method.specs.computed.Opening.{ids}
 use Rattle.method.specs.computed.Event.{in-session, not-crossed, verdict}
 use Rattle.method.specs.computed.Relation.{time}

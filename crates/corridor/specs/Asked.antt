@@ -1,7 +1,7 @@
 -- The line that a question is about.
 use Prim.Native.Nat.{ℕ}
-use Rattle.method.specs.words.Types.{State, demand}
-use Rattle.method.specs.told.Questions.{known, line-of}
+use Rattle.method.specs.words.Types.{State}
+use Rattle.method.specs.told.Questions.{known, line-of, demand}
 use Rattle.corridor.specs.declared.questions.Sought.{Sought}
 
 -- the line of an id

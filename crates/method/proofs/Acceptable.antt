@@ -5,7 +5,7 @@ use mathlib.Core.List.{List}
 use Prim.Native.Nat.{ℕ, _-_, _≤_}
 use native.Mathlib.Omega.{arith}
 use Rattle.numbers.proofs.Tests.{false-le, never-both}
-use Rattle.method.specs.words.Types.{Given, Line, Quote, Event, Damaged, Tick, Quoted, ShiftLine, State, EventAnswer, steps}
+use Rattle.method.specs.words.Types.{Given, Line, ShiftLine, State, EventAnswer, steps}
 use Rattle.method.specs.words.Wire.{word, signed}
 use Rattle.method.specs.words.Ranges.{Every}
 use Rattle.method.specs.words.Tables.{opened}
@@ -14,6 +14,7 @@ use Rattle.method.specs.words.Books.{BookSaid}
 use Rattle.method.specs.words.Sessions.{Answer}
 use Rattle.method.specs.laws.Ticks.{Repeats}
 use Rattle.method.specs.told.Questions.{known}
+use Rattle.method.specs.computed.Types.{Quote, Event, Damaged, Tick, Quoted}
 use Rattle.method.specs.computed.Table.{opening}
 use Rattle.method.specs.computed.Judge.{judge}
 use Rattle.method.specs.computed.Shift.{moved-line, shift-line, shifted}

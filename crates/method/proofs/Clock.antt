@@ -4,8 +4,9 @@ use mathlib.Core.Path.{_≡_, refl}
 use mathlib.Core.List.{List, [], _∷_}
 use Prim.Native.Nat.{_≤_}
 use borrow.Author.Tests.{le-leb}
-use Rattle.method.specs.words.Types.{Seconds, Event, Damaged, Tick, Quoted, ShiftLine, Due, State, EventAnswer}
+use Rattle.method.specs.words.Types.{Seconds, ShiftLine, Due, State, EventAnswer}
 use Rattle.method.specs.words.Holds.{Stands, First, Done}
+use Rattle.method.specs.computed.Types.{Event, Damaged, Tick, Quoted}
 use Rattle.method.specs.computed.Shift.{with-lines, shifted, onward, after}
 use Rattle.method.specs.computed.Event.{in-session, verdict, applied}
 use Rattle.method.specs.computed.Relation.{Calls, time}

@@ -1,12 +1,13 @@
 -- What is computed is what the words admit: a theorem for each statement of specs/Computed, in its order. Assumes nothing.
-use mathlib.Core.Path.{_≡_, refl, subst}
+use mathlib.Core.Path.{_≡_, refl, ap, _∙_, subst}
 use mathlib.Core.List.{List, _++_, map}
 use Prim.Native.Nat.{ℕ}
-use Rattle.method.specs.words.Types.{Row}
 use Rattle.method.specs.words.Tables.{Opening, opened, refused, TableAnswered}
 use Rattle.method.specs.words.Events.{EventAnswered}
+use Rattle.method.specs.told.Types.{Row}
 use Rattle.method.specs.told.Rows.{rows-of-all, closing-row}
 use Rattle.method.specs.told.Program.{table-of, events-in, Prints, refusal, session}
+use Rattle.method.specs.told.Text.{text-of}
 use Rattle.method.specs.computed.Equal.{
   OpeningIs,
   VerdictIs,
@@ -20,6 +21,7 @@ use Rattle.method.specs.computed.Equal.{
   RightAnswers,
   SessionReached,
   ProgramPrints,
+  OutputWritten,
 }
 use Rattle.method.specs.computed.Table.{opening}
 use Rattle.method.specs.computed.Relation.{Answers}
@@ -94,3 +96,7 @@ prints-it input = go (opening (table-of input)) refl
 
 pub computed-program : ProgramPrints
 computed-program input rows = (prints-one, λ e. rw e (prints-it input))
+
+pub computed-output : OutputWritten
+computed-output input bytes =
+    (λ w. w .text ∙ ap text-of (prints-one (w .prints)), λ e. record { rows = program input; prints = prints-it input; text = e })

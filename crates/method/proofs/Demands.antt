@@ -1,7 +1,7 @@
 -- What a choice by a test tells: an answer that is no refusal met every demand on the way. Assumes nothing.
 use mathlib.Core.Path.{_≡_, refl}
 use mathlib.Core.Bool.{Bool, true, false, cond}
-use Rattle.method.specs.words.Types.{demand}
+use Rattle.method.specs.told.Questions.{demand}
 
 -- an answer that the refusal is not comes from a demand that was met
 pub met-by : {A : Type 0} (t : Bool) {refusal onward answer : A} → (refusal ≡ answer → ⊥) → demand t refusal onward ≡ answer → (t ≡ true) × (onward ≡ answer)

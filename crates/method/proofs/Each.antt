@@ -3,9 +3,10 @@ use mathlib.Core.Bool.{Bool, true, false, cond}
 use mathlib.Core.List.{List, [], _∷_, map}
 use Prim.Native.Nat.{ℕ}
 use lib.Dec.{eqb}
-use Rattle.method.specs.words.Types.{Millionths, Line, Quote}
+use Rattle.method.specs.words.Types.{Millionths, Line}
 use Rattle.method.specs.words.Ranges.{Every}
 use Rattle.method.specs.words.Shifts.{Each}
+use Rattle.method.specs.computed.Types.{Quote}
 use Rattle.method.specs.computed.Event.{quoted-line, quoted}
 
 pub each-same : (P : Line → Type 0) (R : Line → Line → Type 0) → ((l : Line) → P l → R l l) → (ls : List Line) → Every P ls → Each R ls ls

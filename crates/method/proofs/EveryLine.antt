@@ -1,9 +1,10 @@
 -- What a shift and a quote keep of one line, every run keeps of all lines. Assumes nothing.
 use mathlib.Core.List.{List, [], _∷_}
 use Prim.Native.Nat.{ℕ, _-_}
-use Rattle.method.specs.words.Types.{Side, Seconds, Millionths, Line, Quote, Event, Damaged, Tick, Quoted, ShiftLine, State}
+use Rattle.method.specs.words.Types.{Side, Seconds, Millionths, Line, ShiftLine, State}
 use Rattle.method.specs.words.Ranges.{Every}
 use Rattle.method.specs.words.Sessions.{Answer, accepted, refused}
+use Rattle.method.specs.computed.Types.{Quote, Event, Damaged, Tick, Quoted}
 use Rattle.method.specs.computed.Shift.{shift-line, shifted, onward, after}
 use Rattle.method.specs.computed.Event.{read, quoted-line, applied, next}
 use Rattle.method.specs.computed.Relation.{reached}

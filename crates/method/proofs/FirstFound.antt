@@ -9,8 +9,9 @@ use native.Mathlib.Omega.{arith}
 use lib.Dec.{ltb, leb}
 use lib.ListN.{getD}
 use borrow.Author.Tests.{ltb-true, ltb-false, leb-true, leb-false, lt-ltb}
-use Rattle.method.specs.words.Types.{Side, Up, Down, Seconds, Hold, Idle, Since, Holds, Line, Due, Found, Nothing, At, State, blank}
-use Rattle.method.specs.words.Pressure.{hold-of}
+use Rattle.method.specs.words.Types.{Side, Up, Down, Seconds, Hold, Idle, Since, Holds, Line, Due, State, blank}
+use Rattle.method.specs.words.Holds.{hold-of}
+use Rattle.method.specs.computed.Types.{Found, Nothing, At}
 use Rattle.method.specs.words.Holds.{Stands, Ahead, earlier, up-first, lowest, First, Done}
 use Rattle.method.specs.computed.Search.{due-of, outranks, ahead, sooner, passed, earliest, in-time, next-due, called}
 use Rattle.method.proofs.HoldLife.{no-since, same-start, up-not-down, blank-idle}

@@ -12,8 +12,8 @@ use Rattle.numbers.proofs.Tests.{both}
 use Rattle.method.specs.words.Types.{Up, Down, Seconds, Millionths, ShiftLine, State, blank}
 use Rattle.method.specs.words.Wire.{bit}
 use Rattle.method.specs.words.Ranges.{Every}
-use Rattle.method.specs.words.Pressure.{hold-of, presses}
-use Rattle.method.specs.words.Holds.{First}
+use Rattle.method.specs.words.Pressure.{presses}
+use Rattle.method.specs.words.Holds.{First, hold-of}
 use Rattle.method.specs.words.Sessions.{Answer, accepted, refused, lines-of, joined}
 use Rattle.method.specs.computed.Shift.{shifted, onward, after}
 use Rattle.method.specs.computed.Event.{read, next}

@@ -8,11 +8,12 @@ use lib.IntN.{pos}
 use lib.Signed.{leZ}
 use borrow.Author.Tests.{leb-true, leb-false, ltb-true, not-true, le-leb, lt-leb, lt-ltb}
 use Rattle.numbers.proofs.Tests.{both, both-true, le-true, le-false, true-le, false-le}
-use Rattle.method.specs.words.Types.{Key, Contract, Millionths, Line, LineAnswer, TableReason}
+use Rattle.method.specs.words.Types.{Key, Contract, Millionths, Line, TableReason}
 use Rattle.method.specs.words.Growth.{most-exponent}
 use Rattle.method.specs.words.Opening.{exponent-of, terms-of, market-of, fresh-line}
 use Rattle.method.specs.words.Tables.{Fresh, its-terms, its-corridor, its-line, Good, Fault}
 use Rattle.method.specs.told.Questions.{known}
+use Rattle.method.specs.computed.Types.{LineAnswer}
 use Rattle.method.specs.computed.Opening.{fields-good, id-good, inside-bounds, opened-with, open-line}
 use Rattle.method.proofs.Every.{every-of-map, every-to-map}
 use Rattle.method.proofs.Opening.{contract-in}

@@ -4,8 +4,9 @@ use mathlib.Core.Path.{_≡_, sym, _∙_}
 use mathlib.Core.List.{List, _++_}
 use Prim.Native.Nat.{_≤_}
 use native.Mathlib.Omega.{arith}
-use Rattle.method.specs.words.Types.{Event, ShiftLine, State, EventAnswer}
+use Rattle.method.specs.words.Types.{ShiftLine, State, EventAnswer}
 use Rattle.method.specs.words.Sessions.{accepted}
+use Rattle.method.specs.computed.Types.{Event}
 use Rattle.method.specs.computed.Shift.{after}
 use Rattle.method.specs.computed.Event.{verdict, next}
 use Rattle.method.specs.computed.Relation.{Calls, time, Right}

@@ -8,8 +8,8 @@ use native.Mathlib.Omega.{arith}
 use lib.ListN.{length}
 use Rattle.method.specs.words.Types.{Side, Up, Down, Seconds, Hold, Since, ShiftLine, Due, State}
 use Rattle.method.specs.words.Ranges.{Every}
-use Rattle.method.specs.words.Holds.{Stands, due-at, Done, remaining}
-use Rattle.method.specs.laws.Seen.{hold-at, Answered, by-shift, all-made}
+use Rattle.method.specs.words.Holds.{Stands, due-at, Done, remaining, hold-at}
+use Rattle.method.specs.laws.Seen.{Answered, by-shift, all-made}
 use Rattle.method.specs.computed.Shift.{shifted, onward}
 use Rattle.method.specs.computed.Relation.{Calls}
 use Rattle.method.proofs.Bounds.{other}

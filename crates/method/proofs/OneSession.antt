@@ -2,6 +2,7 @@
 -- can be struck out. Assumes nothing.
 use mathlib.Core.Path.{_≡_, refl, sym, ap, _∙_, subst}
 use mathlib.Core.List.{List, [], _∷_, _++_}
+use mathlib.Core.Logic.{_↔_}
 use Prim.Native.Nat.{ℕ, _+_, _≤_, _<_}
 use native.Mathlib.Omega.{arith}
 use Rattle.method.specs.words.Types.{Seconds, ShiftLine, State, EventReason, EventAnswer, seconds}
@@ -9,7 +10,7 @@ use Rattle.method.specs.words.Wire.{word}
 use Rattle.method.specs.words.Ranges.{Every}
 use Rattle.method.specs.words.Events.{IsEvent, EventAnswered, tick-taken, quote-taken}
 use Rattle.method.specs.words.Holds.{Done}
-use Rattle.method.specs.words.Sessions.{Answer, accepted, refused, joined, LineTold, AppliedTo, Serves, nothing, first, Follows, AnswersInWords, no-more, taken, turned-away, Struck}
+use Rattle.method.specs.words.Sessions.{Answer, accepted, refused, joined, LineApplied, AppliedTo, Serves, nothing, first, Follows, AnswersInWords, no-more, taken, turned-away, Struck}
 use Rattle.method.specs.words.Rules.{Opens}
 use Rattle.method.specs.laws.Stages.{Reported}
 use Rattle.method.specs.computed.Opening.{ids}
@@ -106,7 +107,7 @@ pub follows-distinct : {s n : State} {b : List ℕ} {cs : List ShiftLine} → Di
 follows-distinct {s} {n} {b} {cs} d f =
     let k = f .between in
     let m : Distinct (ids (k .lines)) = rw (serves-after (f .served)) (distinct-after cs s d) in
-    subst Distinct (same-ids (LineTold (k .near) (k .left) b) (λ o l p. p .terms) (k .lines) (n .lines) (f .applied .lines)) m
+    subst Distinct (same-ids (LineApplied (k .near) (k .left) b) (λ o l p. p .terms) (k .lines) (n .lines) (f .applied .lines)) m
 
 -- ---- a list of byte strings
 pub words-answers : {s n : State} {bs : List (List ℕ)} {rs : List Answer} → Sound s → Distinct (ids (s .lines)) → AnswersInWords s bs rs n
@@ -181,23 +182,37 @@ rest-words {n = n} {rest = rest} {more = more} (taken {bs = bs} {rs = rs} f r) (
 rest-words (turned-away p r) (turned-away q k) = rest-words r k
 
 -- ---- a refused event
-tail-words : {m n : State} {b : List ℕ} {rest : List (List ℕ)} {why : EventReason} {more : List Answer} → AnswersInWords m (b ∷ rest) (refused why ∷ more) n
-    → AnswersInWords m rest more n
-tail-words (turned-away p r) = r
+-- the answers to a list begin with those to its front, and go on from the state that these leave
+record Split (m : State) (told : List Answer) (bs : List (List ℕ)) (qs : List Answer) (n : State) : Type 0 where
+  more : List Answer
+  is : qs ≡ told ++ more
+  there : AnswersInWords m bs more n
 
-pub struck-out : {o m : State} {past : List (List ℕ)} {told : List Answer} {b : List ℕ} {why : EventReason} → AnswersInWords o past told m
-    → EventAnswered m b (EventAnswer.Refused why) → Struck o past told m b why
-struck-out {o} {m} {past} {told} {b} {why} h v =
-    record {
-      answer = λ rs n. (
-        λ k. words-one k (turned-away v no-more),
-        λ e. rw (e .0, e .1) (turned-away v no-more),
-      );
-      later = λ rest more n. (
-        λ k. joined-words h (tail-words (rest-words h k)),
-        λ k. joined-words h (turned-away v (rest-words h k)),
-      );
-    }
+split-words : {o m n : State} {past bs : List (List ℕ)} {told qs : List Answer} → AnswersInWords o past told m → AnswersInWords o (past ++ bs) qs n
+    → Split m told bs qs n
+split-words {qs = qs} no-more k = record { more = qs; is = refl; there = k }
+split-words {n = n} {bs = bs} (taken {bs = past} f r) (taken {rs = qs} g k) =
+    let e = follows-one f g in
+    let s = split-words r (subst (λ (j : State). AnswersInWords j (past ++ bs) qs n) (sym (e .1)) k) in
+    record { more = s .more; is = λ i. accepted (sym (e .0) i) ∷ s .is i; there = s .there }
+split-words (taken f r) (turned-away v k) = absurd (taken-not-refused (f .taken) v)
+split-words (turned-away v r) (taken g k) = absurd (taken-not-refused (g .taken) v)
+split-words (turned-away v r) (turned-away w k) =
+    let e = why-one w v in
+    let s = split-words r k in
+    record { more = s .more; is = λ i. refused (e i) ∷ s .is i; there = s .there }
+
+pub struck-out : {o m n : State} {past rest : List (List ℕ)} {told qs : List Answer} {b : List ℕ} {why : EventReason} → AnswersInWords o past told m
+    → EventAnswered m b (EventAnswer.Refused why) → AnswersInWords o (past ++ b ∷ rest) qs n ↔ Struck o past told why rest qs n
+struck-out {o} {m} {n} {past} {rest} {told} {qs} {b} {why} h v = (
+  λ k. let s = split-words h k in go (s .is) (s .there),
+  λ k. subst (λ (rs : List Answer). AnswersInWords o (past ++ b ∷ rest) rs n) (sym (k .answers)) (joined-words h (turned-away v (rest-words h (k .without)))),
+)
+  where
+    go : {more : List Answer} → qs ≡ told ++ more → AnswersInWords m (b ∷ rest) more n → Struck o past told why rest qs n
+    go e (taken f r) = absurd (taken-not-refused (f .taken) v)
+    go e (turned-away {rs = more} w r) =
+        record { more = more; answers = e ∙ ap (λ (x : EventReason). told ++ refused x ∷ more) (why-one w v); without = joined-words h r }
 
 -- ---- from a proper state: what the computed relation says, and what every state of a session is
 words-distinct : {s n : State} {bs : List (List ℕ)} {rs : List Answer} → Distinct (ids (s .lines)) → AnswersInWords s bs rs n → Distinct (ids (n .lines))

@@ -14,10 +14,11 @@ use Rattle.numbers.proofs.Halves.{zarith, apart, abs-is}
 use Rattle.numbers.proofs.Linear.{≤ℤ-trans}
 use Rattle.numbers.proofs.Rounding.{floor-mono, ceiling-mono}
 use Rattle.numbers.proofs.Tests.{both, lt-false, le-true, in-range-true, between-true, in-span-true}
-use Rattle.method.specs.words.Types.{Steps, Millionths, Key, Contract, Line, LineAnswer, TableReason}
+use Rattle.method.specs.words.Types.{Steps, Millionths, Key, Contract, Line, TableReason}
 use Rattle.method.specs.words.Ranges.{ContractIn}
 use Rattle.method.specs.words.Growth.{rate-at, exponent, most-exponent}
 use Rattle.method.specs.words.Opening.{normal-price, half-width, market-of, half-move, terms-of, corridor, fresh-line}
+use Rattle.method.specs.computed.Types.{LineAnswer}
 use Rattle.method.specs.computed.Opening.{rates-good, fields-good, id-good, inside-bounds, opened-with, open-line}
 use Rattle.method.specs.computed.Rooms.{MarketIn, LineIn}
 use Rattle.method.proofs.Demands.{met-by}

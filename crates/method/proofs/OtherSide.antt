@@ -10,11 +10,12 @@ use lib.ListN.{getD}
 use lib.Signed.{ltZ, ≤ℤ-refl, _≤ℤ_, _<ℤ_}
 use Rattle.numbers.proofs.Halves.{zarith, le-halves, add-is, sub-is, lmul-is}
 use Rattle.numbers.proofs.Tests.{lt-true, true-lt}
-use Rattle.method.specs.words.Types.{Side, Up, Down, Seconds, Millionths, Market, Limits, Price, Absent, Given, Line, Quote, ShiftLine, State, steps, blank}
+use Rattle.method.specs.words.Types.{Side, Up, Down, Seconds, Millionths, Market, Limits, Price, Absent, Given, Line, ShiftLine, State, steps, blank}
 use Rattle.method.specs.words.Ranges.{permits-negative, under-watch, Every}
 use Rattle.method.specs.words.Bounds.{bound}
 use Rattle.method.specs.words.Pressure.{close, price, presses}
 use Rattle.method.specs.laws.Seen.{presses-at}
+use Rattle.method.specs.computed.Types.{Quote}
 use Rattle.method.specs.computed.Judge.{judge}
 use Rattle.method.specs.computed.Shift.{moved, redrawn, moved-line, shift-line, shifted, onward}
 use Rattle.method.specs.computed.Event.{quoted-line}

@@ -6,10 +6,11 @@ use Prim.Native.Nat.{ℕ, _-_}
 use lib.Dec.{eqb}
 use lib.IntN.{ℤ}
 use borrow.Author.Tests.{eqb-true}
-use Rattle.method.specs.words.Types.{Millionths, Price, Book, Line, Quote, Event, Damaged, Tick, Quoted, ShiftLine, State, EventAnswer}
+use Rattle.method.specs.words.Types.{Millionths, Price, Book, Line, ShiftLine, State, EventAnswer}
 use Rattle.method.specs.words.Ranges.{Every}
 use Rattle.method.specs.words.Books.{PriceSaid, BookSaid}
 use Rattle.method.specs.laws.Ticks.{NothingNew, tick, repeat}
+use Rattle.method.specs.computed.Types.{Quote, Event, Damaged, Tick, Quoted}
 use Rattle.method.specs.computed.Judge.{judge}
 use Rattle.method.specs.computed.Shift.{moved-line, shift-line, shifted, onward, after}
 use Rattle.method.specs.computed.Event.{price-of, read, verdict, with-book, quoted-line, quoted, applied}

@@ -9,9 +9,10 @@ use Rattle.numbers.specs.Ranges.{Within, Span}
 use Rattle.numbers.proofs.Halves.{zarith, apart, add-is}
 use Rattle.numbers.proofs.Linear.{≤ℤ-trans}
 use Rattle.numbers.proofs.Ranges.{within-more, within-pos, within-add, within-sub, within-mul, floor-within, ceiling-within, within-squeeze}
-use Rattle.method.specs.words.Types.{Side, Up, Down, Seconds, Millionths, Terms, Market, Absent, Hold, Idle, Since, Holds, Line, Quote, steps}
+use Rattle.method.specs.words.Types.{Side, Up, Down, Seconds, Millionths, Terms, Market, Absent, Hold, Idle, Since, Holds, Line, steps}
 use Rattle.method.specs.words.Bounds.{market-bound, factor, interest, bound}
 use Rattle.method.specs.words.Pressure.{presses}
+use Rattle.method.specs.computed.Types.{Quote}
 use Rattle.method.specs.computed.Judge.{judged, judge}
 use Rattle.method.specs.computed.Shift.{toward, moved, ended, moved-line, shift-line}
 use Rattle.method.specs.computed.Event.{quoted-line}

@@ -1,4 +1,4 @@
--- Rule 2: a theorem for each statement of specs/Rules, in its order. Assumes nothing.
+-- Rule 2: a theorem for each statement of words/Rules and laws/Rule2. Assumes nothing.
 use mathlib.Core.Path.{_≡_, sym, ap, _∙_, subst}
 use mathlib.Core.List.{List, _∷_, _++_}
 use mathlib.Core.Logic.{_⊎_}
@@ -8,12 +8,12 @@ use Rattle.method.specs.words.Types.{Since, ShiftLine, State, seconds}
 use Rattle.method.specs.words.Wire.{word}
 use Rattle.method.specs.words.Ranges.{Every}
 use Rattle.method.specs.words.Tables.{opening-state}
-use Rattle.method.specs.words.Holds.{Stands, First, Done}
+use Rattle.method.specs.words.Holds.{Stands, First, Done, hold-at}
 use Rattle.method.specs.words.Sessions.{Answer, accepted, SameTable, Follows, AnswersInWords}
 use Rattle.method.specs.words.Rules.{Opens, EverySession}
-use Rattle.method.specs.laws.Seen.{hold-at, Caller, Timely, AtOnce}
+use Rattle.method.specs.laws.Seen.{Caller, Timely, AtOnce}
 use Rattle.method.specs.laws.Stages.{Stage, Begun, Throughout}
-use Rattle.method.specs.laws.Rule2.{EventAtOnce, NothingLeft, NoneMissed, HoldsStandExactly, HoldsStandBetween, InOrder, EachLineCalledFor, EachLineReported, ShiftsCounted, AtMostSixteen, Rule2, AtMostOne, WheneverLooked, AtOpening, TableKept}
+use Rattle.method.specs.laws.Rule2.{OneSession, EventAtOnce, NothingLeft, NoneMissed, HoldsStandExactly, HoldsStandBetween, InOrder, EachLineCalledFor, EachLineReported, ShiftsCounted, AtMostSixteen, Rule2, AtMostOne, WheneverLooked, AtOpening, TableKept}
 use Rattle.method.specs.computed.Shift.{after}
 use Rattle.method.specs.computed.Event.{read, next}
 use Rattle.method.specs.computed.Relation.{Calls, time, Right}
@@ -100,8 +100,8 @@ module _ (o : State) (p : Proper o) {past : List (List ℕ)} {told : List Answer
 
 -- ---- of a session that begins in a proper state
 module _ {From : State → Type 0} (proper : (o : State) → From o → Proper o) where
-  pub rule2-every-session : EverySession From
-  rule2-every-session o q bs =
+  pub rule2-one-session : OneSession From
+  rule2-one-session o q bs =
       let p = proper o q in
       let its : AnswersInWords o bs (run o bs) (finally o bs) = run-in-words o (p .sound) (p .distinct) bs in
       record { it = (run o bs, finally o bs); so = its; only = λ r h. let e = words-one h its in λ i. (e .0 i, e .1 i) }
@@ -175,7 +175,7 @@ module _ {From : State → Type 0} (proper : (o : State) → From o → Proper o
   all-of-it : Rule2 From
   all-of-it =
       record {
-        every-session = rule2-every-session;
+        one-session = rule2-one-session;
         at-once = rule2-at-once;
         nothing-left = rule2-nothing-left;
         none-missed = rule2-none-missed;
@@ -195,6 +195,9 @@ pub rule2-kept : Rule2 Proper
 rule2-kept = all-of-it (λ o p. p)
 
 -- ---- of what a table opens
+pub rule2-every-session : EverySession
+rule2-every-session = rule2 .one-session
+
 pub rule2-at-opening : AtOpening
 rule2-at-opening o q =
     let e = answered-table (q .table) (q .opened-by) in

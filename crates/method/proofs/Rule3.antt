@@ -1,4 +1,4 @@
--- Rule 3: a theorem for each statement of specs/Rules. Assumes nothing.
+-- Rule 3: a theorem for each statement of words/Rules and laws/Rule3. Assumes nothing.
 use mathlib.Core.Path.{_≡_, refl, sym, _∙_}
 use mathlib.Core.Bool.{true, false, true≢false}
 use mathlib.Core.List.{List}
@@ -11,20 +11,19 @@ use Rattle.numbers.proofs.Halves.{zarith, add-is, sub-is}
 use Rattle.method.specs.words.Types.{Side, Up, Down, Line, ShiftLine, State, steps}
 use Rattle.method.specs.words.Ranges.{permits-negative}
 use Rattle.method.specs.words.Bounds.{bound}
-use Rattle.method.specs.words.Shifts.{Each}
 use Rattle.method.specs.words.Sessions.{Answer, joined, AnswersInWords}
-use Rattle.method.specs.words.Corridor.{margin, FloorMet, at-opening, in-a-shift, Lower, exactly, at-floor, Outward}
+use Rattle.method.specs.words.Margins.{margin, FloorMet, at-opening, in-a-shift, Lower, exactly, at-floor, Outward}
 use Rattle.method.specs.words.Rules.{Opens, Moment, start, Centres, HalfWidthsGrow, ShiftsWithin, NeverInward, UpperInside, LowerInside}
 use Rattle.method.specs.laws.Seen.{Shifted, StaysFrozen}
-use Rattle.method.specs.laws.Rule3.{FrozenTells, FrozenForGood, LinesShifted, OneLine, AnswersLead, ShiftsLead}
+use Rattle.method.specs.laws.Rule3.{FrozenTells, FrozenForGood, OnlyOutward, LinesShifted, OneLine, AnswersLead, ShiftsLead}
 use Rattle.method.specs.computed.Opening.{ids}
 use Rattle.method.specs.computed.Later.{Later}
 use Rattle.method.specs.computed.Rooms.{OpeningIn, Room}
-use Rattle.method.specs.computed.Sound.{Distinct}
+use Rattle.method.specs.computed.Sound.{Distinct, Proper}
 use Rattle.method.proofs.Each.{each-weaker, each-with}
 use Rattle.method.proofs.Table.{accepted-table, table-most}
 use Rattle.method.proofs.TableAnswered.{answered-table}
-use Rattle.method.proofs.OneSession.{opens-proper}
+use Rattle.method.proofs.OneSession.{proper-held, opens-proper}
 use Rattle.method.proofs.Moments.{moment-words, moment-shifts, moment-rest, moment-later}
 use Rattle.method.proofs.Later.{Held, held-opening, held-moment}
 use Rattle.method.proofs.Reached.{shifted-moment, left-moment, Limited, wider-moment}
@@ -72,28 +71,33 @@ rule3-shifts o q bs rs s h =
     let left = left-moment (its-held o q) (after-words o q h) ∙ table-most (q .table) o (answered-table (q .table) (q .opened-by)) in
     (omega (arith, left), left)
 
--- ---- from a moment to a later one
-module _ (o : State) (q : Opens o) {s r : State} {cs ds : List ShiftLine} (m : Moment o cs s) (n : Moment s ds r) where
+-- ---- from a moment of a session that began in a proper state to a later one
+module _ (o : State) (p : Proper o) {s r : State} {cs ds : List ShiftLine} (m : Moment o cs s) (n : Moment s ds r) where
+  before : Later o cs s × Distinct (ids (s .lines))
+  before = moment-later (proper-held o p) (p .distinct) m
+
   here : Held s
-  here = held-moment (its-held o q) (later o q m .0)
+  here = held-moment (proper-held o p) (before .0)
 
   thence : Later s ds r
-  thence = moment-later here (later o q m .1) n .0
+  thence = moment-later here (before .1) n .0
 
-  pub never-inward : Each Outward (s .lines) (r .lines)
-  never-inward = each-weaker Limited Outward (λ x l w. record { upper = w .upper; lower = w .lower }) (s .lines) (r .lines) (wider-moment here thence)
-
-  pub frozen-for-good : Each StaysFrozen (s .lines) (r .lines)
-  frozen-for-good =
-      each-with (Room (r .left)) Limited StaysFrozen
-      (λ x l v w. record { frozen = w .frozen; lower = λ y. v .limits .floor .frozen-at (w .frozen y) }) (s .lines) (r .lines)
-      (held-moment here thence .sane .rooms) (wider-moment here thence)
+pub never-inward : OnlyOutward Proper
+never-inward o s r cs ds p m n =
+    each-weaker Limited Outward (λ x l w. record { upper = w .upper; lower = w .lower }) (s .lines) (r .lines)
+    (wider-moment (here o p m n) (thence o p m n))
 
 pub rule3-never-inward : NeverInward
-rule3-never-inward o s r cs ds q m n = never-inward o q m n
+rule3-never-inward o s r cs ds q m n = never-inward o s r cs ds (opens-proper o q) m n
 
-pub rule3-frozen-for-good : FrozenForGood
-rule3-frozen-for-good o s r cs ds q m n = frozen-for-good o q m n
+pub frozen-for-good : FrozenForGood Proper
+frozen-for-good o s r cs ds p m n =
+    each-with (Room (r .left)) Limited StaysFrozen
+    (λ x l v w. record { frozen = w .frozen; lower = λ y. v .limits .floor .frozen-at (w .frozen y) }) (s .lines) (r .lines)
+    (held-moment (here o p m n) (thence o p m n) .sane .rooms) (wider-moment (here o p m n) (thence o p m n))
+
+pub rule3-frozen-for-good : FrozenForGood Opens
+rule3-frozen-for-good o s r cs ds q m n = frozen-for-good o s r cs ds (opens-proper o q) m n
 
 -- ---- the two cases of the lower limit exclude each other: w inside its bound b by i, as at opening
 not-below : (w b i : ℤ) → w -ℤ b ≡ i → pos 1 ≤ℤ w → (b +ℤ i) <ℤ pos 1 → ⊥

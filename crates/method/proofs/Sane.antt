@@ -2,7 +2,8 @@
 use mathlib.Core.Path.{_≡_, subst}
 use Prim.Native.Nat.{ℕ, suc, _-_, _≤_, _<_}
 use native.Mathlib.Omega.{arith}
-use Rattle.method.specs.words.Types.{Side, Seconds, Event, Damaged, Tick, Quoted, State, EventAnswer}
+use Rattle.method.specs.words.Types.{Side, Seconds, State, EventAnswer}
+use Rattle.method.specs.computed.Types.{Event, Damaged, Tick, Quoted}
 use Rattle.method.specs.computed.Shift.{shift-line, shifted}
 use Rattle.method.specs.computed.Event.{verdict, applied}
 use Rattle.method.specs.computed.Rooms.{LineIn, OpeningIn, Room, Sane, EventIn}

@@ -5,11 +5,13 @@ use mathlib.Core.Logic.{_⊎_, inl, inr, ⊎-elim}
 use mathlib.Core.List.{List, [], _∷_, _++_}
 use Prim.Native.Nat.{ℕ, _≤_, _<_}
 use native.Mathlib.Omega.{arith}
-use Rattle.method.specs.words.Types.{Side, Seconds, Since, Event, ShiftLine, State}
+use Rattle.method.specs.words.Types.{Side, Seconds, Since, ShiftLine, State}
 use Rattle.method.specs.words.Ranges.{Every}
+use Rattle.method.specs.words.Holds.{hold-at}
 use Rattle.method.specs.words.Sessions.{Answer, accepted, refused}
-use Rattle.method.specs.laws.Seen.{hold-at, Precedes, before, up-down, Rising, Timely}
+use Rattle.method.specs.laws.Seen.{Precedes, before, up-down, Rising, Timely}
 use Rattle.method.specs.laws.Stages.{Stage, Pressing, Begun, Throughout}
+use Rattle.method.specs.computed.Types.{Event}
 use Rattle.method.specs.computed.Shift.{onward, after}
 use Rattle.method.specs.computed.Event.{read, next}
 use Rattle.method.specs.computed.Relation.{time, Right, Answers, reached}

@@ -9,10 +9,11 @@ use lib.Dec.{leb, eqb}
 use lib.ListN.{length, length-append}
 use borrow.Author.Tests.{leb-true, ltb-true}
 use Rattle.numbers.proofs.Tests.{both, in-range-true}
-use Rattle.method.specs.words.Types.{Header, Key, Contract, Line, LineAnswer, TableReason, State}
+use Rattle.method.specs.words.Types.{Header, Key, Contract, Line, TableReason, State}
 use Rattle.method.specs.words.Layout.{header-of, keys-at, contracts-start, contracts-at}
 use Rattle.method.specs.words.Ranges.{KeyIn, KeysIn, HeaderIn, Every}
 use Rattle.method.specs.words.Tables.{opened, refused, opening-state}
+use Rattle.method.specs.computed.Types.{LineAnswer}
 use Rattle.method.specs.computed.Opening.{open-line}
 use Rattle.method.specs.computed.Table.{header-good, laid-out, key-good, bad-key, if-opened, open-lines, if-keys-good, open-records, opening}
 use Rattle.method.specs.computed.Rooms.{LineIn, OpeningIn}

@@ -1,6 +1,7 @@
--- What the code computes: opening step by step, an event, a shift, the search for due holds. Nothing here has to be believed: it is proved to be
--- what the words admit (Equal).
+-- What the code computes: opening step by step, an event, a shift, the search for due holds. Nothing here has to be believed: answers and states
+-- are proved to be those that the words admit (Equal). Rooms, Sound and Later have what holds along every session, for the code and the proofs.
 pub mod Equal
+pub mod Types
 pub mod Opening
 pub mod Table
 pub mod Judge

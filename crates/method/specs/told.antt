@@ -1,4 +1,5 @@
 -- To be believed by whoever reads an answer: the numbers of refusals, the questions, the rows of an answer and the text that is printed.
+pub mod Types
 pub mod Refusals
 pub mod Questions
 pub mod Report

@@ -1,9 +1,12 @@
-// The plain data of the method. No function runs here: specs/ says over these types what is right, and the crates above compute it.
+// The plain data of the method, parted as specs/ is. No function runs here: specs/ says over these types what is right, and the crates above
+// compute it.
 
 use numbers::Billionths;
 use numbers::Millionths;
 use numbers::Seconds;
 use numbers::Steps;
+
+// ==== of the words
 
 // ---- the morning table
 
@@ -106,21 +109,7 @@ pub struct Line {
     pub holds: Holds,
 }
 
-// ---- events and shifts
-
-pub struct Quote {
-    pub time: Seconds,
-    pub id: u32,
-    pub bid: Price,
-    pub ask: Price,
-}
-
-// What a byte string says. `Damaged` is every one that is no event.
-pub enum Event {
-    Damaged,
-    Tick(Seconds),
-    Quoted(Quote),
-}
+// ---- shifts
 
 pub struct ShiftLine {
     pub second: Seconds,
@@ -135,12 +124,7 @@ pub struct Due {
     pub place: usize,
 }
 
-pub enum Found {
-    Nothing,
-    At(Due),
-}
-
-// ---- answers
+// ---- refusals, and the answer to an event
 
 // Refusals 1 to 9, in the order of their numbers.
 pub enum TableReason {
@@ -164,20 +148,17 @@ pub enum EventReason {
     Crossed,
 }
 
-pub enum LineAnswer {
-    Opened(Line),
-    Refused(TableReason),
+pub enum EventAnswer {
+    Accepted,
+    Refused(EventReason),
 }
+
+// ==== of what is told
 
 // A refusal has its line, counted from 1, or 0 where the header is at fault.
 pub enum TableAnswer {
     Opened,
     Refused(TableReason, u32),
-}
-
-pub enum EventAnswer {
-    Accepted,
-    Refused(EventReason),
 }
 
 pub enum LimitsAnswer {
@@ -244,4 +225,30 @@ pub enum Row {
     RefusedEvent(EventReason),
     RefusedTable(TableReason, u32),
     Closed(Closing),
+}
+
+// ==== of what is computed
+
+pub struct Quote {
+    pub time: Seconds,
+    pub id: u32,
+    pub bid: Price,
+    pub ask: Price,
+}
+
+// What a byte string says. `Damaged` is every one that is no event.
+pub enum Event {
+    Damaged,
+    Tick(Seconds),
+    Quoted(Quote),
+}
+
+pub enum Found {
+    Nothing,
+    At(Due),
+}
+
+pub enum LineAnswer {
+    Opened(Line),
+    Refused(TableReason),
 }

@@ -12,10 +12,11 @@ use lib.ListN.{length, take}
 use lib.Seq.{getD-take, length-take-le, take-all}
 use Rattle.method.specs.declared.Header.{Header}
 use Rattle.method.specs.declared.TableReason.{TableReason}
-use Rattle.method.specs.words.Types.{State, demand}
+use Rattle.method.specs.words.Types.{State}
 use Rattle.method.specs.words.Wire.{word}
 use Rattle.method.specs.words.Layout.{header-of, table-length}
 use Rattle.method.specs.words.Tables.{Opening, opened, refused}
+use Rattle.method.specs.told.Questions.{demand}
 use Rattle.method.specs.computed.Table.{header-good, opening}
 use Rattle.method.proofs.Table.{header-in, not-opened}
 

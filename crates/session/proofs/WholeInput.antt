@@ -1,4 +1,4 @@
--- All bytes that the program hands to write are the output of the whole input. Assumes nothing.
+-- All bytes that the program hands to write are those that are written for the whole input. Assumes nothing.
 use mathlib.Core.Path.{_≡_, refl, sym, ap, _∙_}
 use mathlib.Core.List.{List, [], _∷_, _++_, map, append-assoc, append-nil}
 use Prim.Native.Nat.{ℕ}
@@ -15,6 +15,7 @@ use Rattle.method.specs.told.Text.{text-of}
 use Rattle.method.specs.computed.Table.{opening}
 use Rattle.method.specs.computed.Search.{run}
 use Rattle.method.specs.computed.Program.{program}
+use Rattle.method.proofs.Computed.{computed-output}
 use Rattle.method.proofs.Text.{text-append}
 use Rattle.rows.proofs.Buffer.{numbers-append, numbers-one}
 use Rattle.text.specs.Line.{all-text}
@@ -60,4 +61,4 @@ in-text (Refused why line) s chunks rows e =
 pub whole-input : WholeInput
 whole-input input chunks w e =
     let x = opened-session (opening (take (table-end (header-of input)) input)) in
-    in-text (x .answer) (x .session) chunks (program input) (whole-in-numbers input chunks w e)
+    computed-output input _ .1 (in-text (x .answer) (x .session) chunks (program input) (whole-in-numbers input chunks w e))

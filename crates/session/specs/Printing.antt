@@ -1,5 +1,5 @@
--- What the program prints: the texts that its functions make, in the order in which it hands them to write; and that together they are the
--- output that the method gives for the whole input.
+-- What the program prints: the texts that its functions make, in the order in which it hands them to write; and that together they are what the
+-- method says is written for the whole input.
 --
 -- The contracts of `answers::chunk`, `answers::closing` and `answers::refusal` name these texts, that of `reading::table_end` the end of the
 -- table, and that of `events::answer_events` the session that the chunks leave. Outside of all contracts, and read off the code, are only the
@@ -16,7 +16,7 @@ use Rattle.method.specs.declared.Row.the-variants as Row
 use Rattle.method.specs.words.Layout.{header-of}
 use Rattle.method.specs.told.Rows.{rows-of-all, closing-row}
 use Rattle.method.specs.told.Program.{events-of}
-use Rattle.method.specs.told.Text.{line-text, text-of, output}
+use Rattle.method.specs.told.Text.{line-text, text-of, Writes}
 use Rattle.method.specs.computed.Table.{opening}
 use Rattle.method.specs.computed.Search.{run}
 use Rattle.corridor.specs.declared.Session.{Session}
@@ -52,7 +52,8 @@ abbrev pub printed : List ℕ → List (List ℕ) → List (List ℕ)
 printed table chunks = texts-after (opened-session (opening table) .answer) (opened-session (opening table) .session) chunks
 
 -- The program reads an input up to `table-end` as the table, and then the rest in chunks of whole events, of which only the last may be
--- cut. All bytes that it hands to write are then the output of the whole input, however it is cut into chunks. (METHOD 22)
+-- cut. All bytes that it hands to write are then those that the method says are written for the whole input, wherever between two events it is
+-- cut into chunks. (METHOD 22)
 abbrev pub WholeInput : Type 0
 WholeInput = (input : List ℕ) (chunks : List (List ℕ)) → WholeButLast chunks → all-bytes chunks ≡ drop (table-end (header-of input)) input
-    → all-bytes (printed (take (table-end (header-of input)) input) chunks) ≡ output input
+    → Writes input (all-bytes (printed (take (table-end (header-of input)) input) chunks))

@@ -4,7 +4,7 @@ use mathlib.Core.List.{List, [], _∷_}
 use Prim.Native.Nat.{ℕ, suc, _%_}
 use lib.Dec.{ltb, leb, eqb}
 use lib.ListN.{length}
-use Rattle.method.specs.words.Types.{demand}
+use Rattle.method.specs.told.Questions.{demand}
 use Rattle.method.specs.computed.Event.{not-crossed}
 use Rattle.verdict.specs.Names.{Seconds, Quote, Event, Damaged, Tick, Quoted, EventReason}
 use Rattle.verdict.specs.declared.Change.{Change}

@@ -4,13 +4,15 @@ use mathlib.Core.List.{List}
 use mathlib.Core.Logic.{_↔_}
 use mathlib.Core.Path.{_≡_}
 use Prim.Native.Nat.{ℕ, _<_}
-use Rattle.method.specs.words.Types.{ShiftLine, EventAnswer, Row, State}
+use Rattle.method.specs.words.Types.{ShiftLine, EventAnswer, State}
 use Rattle.method.specs.words.Ranges.{Every}
 use Rattle.method.specs.words.Tables.{Opening, TableAnswered}
 use Rattle.method.specs.words.Events.{IsEvent, EventAnswered}
 use Rattle.method.specs.words.Sessions.{ShiftedTo, AppliedTo, Follows, Answer, accepted, AnswersInWords}
 use Rattle.method.specs.words.Rules.{Opens, AfterAny}
+use Rattle.method.specs.told.Types.{Row}
 use Rattle.method.specs.told.Program.{Prints}
+use Rattle.method.specs.told.Text.{Writes}
 use Rattle.method.specs.computed.Opening.{ids}
 use Rattle.method.specs.computed.Table.{opening}
 use Rattle.method.specs.computed.Shift.{onward}
@@ -18,7 +20,7 @@ use Rattle.method.specs.computed.Event.{read, verdict, applied, next}
 use Rattle.method.specs.computed.Relation.{Right, Answers, reached}
 use Rattle.method.specs.computed.Search.{run, finally}
 use Rattle.method.specs.computed.Sound.{Exact, Sound, Distinct, Proper}
-use Rattle.method.specs.computed.Program.{program}
+use Rattle.method.specs.computed.Program.{program, output}
 
 -- ---- rule 1: the answer to a table (computed-opening), and to an event (computed-verdict)
 abbrev pub OpeningIs : Type 0
@@ -70,6 +72,10 @@ RightAnswers = (s : State) → Sound s → (bs : List (List ℕ)) (rs : List Ans
 abbrev pub SessionReached : Type 0
 SessionReached = (s : State) (bs : List (List ℕ)) → finally s bs ≡ reached s bs (run s bs)
 
--- ---- what the program prints (computed-program)
+-- ---- what the program prints, in rows (computed-program),
 abbrev pub ProgramPrints : Type 0
 ProgramPrints = (input : List ℕ) (rows : List Row) → Prints input rows ↔ (rows ≡ program input)
+
+-- and in bytes (computed-output)
+abbrev pub OutputWritten : Type 0
+OutputWritten = (input bytes : List ℕ) → Writes input bytes ↔ (bytes ≡ output input)

@@ -7,10 +7,11 @@ use lib.IntN.{ℤ, pos}
 use lib.ListN.{length}
 use lib.Signed.{leZ}
 use Rattle.numbers.specs.Tests.{in-span, same}
-use Rattle.method.specs.words.Types.{Millionths, Seconds, Price, Absent, Given, Line, Quote, Event, Damaged, Tick, Quoted, EventReason, EventAnswer, steps, seconds, State, demand}
+use Rattle.method.specs.words.Types.{Millionths, Seconds, Price, Absent, Given, Line, EventReason, EventAnswer, steps, seconds, State}
 use Rattle.method.specs.words.Wire.{word, signed, bit}
 use Rattle.method.specs.words.Sessions.{Answer, accepted, refused}
-use Rattle.method.specs.told.Questions.{known}
+use Rattle.method.specs.told.Questions.{known, demand}
+use Rattle.method.specs.computed.Types.{Quote, Event, Damaged, Tick, Quoted}
 use Rattle.method.specs.computed.Judge.{judge}
 use Rattle.method.specs.computed.Shift.{with-lines, after}
 

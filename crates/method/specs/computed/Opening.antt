@@ -6,12 +6,13 @@ use lib.Dec.{ltb, leb}
 use lib.IntN.{pos}
 use lib.Signed.{leZ}
 use Rattle.numbers.specs.Tests.{in-span, in-range, between}
-use Rattle.method.specs.words.Types.{Millionths, Key, Contract, Up, Down, Terms, Market, Limits, Line, TableReason, LineAnswer, demand}
+use Rattle.method.specs.words.Types.{Millionths, Key, Contract, Up, Down, Terms, Market, Limits, Line, TableReason}
 use Rattle.method.specs.words.Ranges.{permits-negative}
 use Rattle.method.specs.words.Growth.{most-exponent}
 use Rattle.method.specs.words.Bounds.{bound}
 use Rattle.method.specs.words.Opening.{market-of, terms-of, corridor, fresh-line, exponent-of}
-use Rattle.method.specs.told.Questions.{known}
+use Rattle.method.specs.told.Questions.{known, demand}
+use Rattle.method.specs.computed.Types.{LineAnswer}
 
 -- ---- ranges (refusal 5)
 unfoldable pub rates-good : Contract → Bool

@@ -1,10 +1,12 @@
--- What program `session` prints, as rows, computed.
+-- What program `session` prints, as rows and as bytes, computed.
 use mathlib.Core.List.{List, [], _∷_, _++_, map}
 use Prim.Native.Nat.{ℕ}
-use Rattle.method.specs.words.Types.{Row, State}
+use Rattle.method.specs.words.Types.{State}
 use Rattle.method.specs.words.Tables.{Opening, opened, refused}
+use Rattle.method.specs.told.Types.{Row}
 use Rattle.method.specs.told.Rows.{rows-of-all, closing-row}
 use Rattle.method.specs.told.Program.{table-of, events-in}
+use Rattle.method.specs.told.Text.{text-of}
 use Rattle.method.specs.computed.Table.{opening}
 use Rattle.method.specs.computed.Search.{run, finally}
 
@@ -18,3 +20,6 @@ rows-after (refused why line) events = Row.RefusedTable why line ∷ []
 
 unfoldable pub program : List ℕ → List Row
 program input = rows-after (opening (table-of input)) (events-in input)
+
+abbrev pub output : List ℕ → List ℕ
+output input = text-of (program input)

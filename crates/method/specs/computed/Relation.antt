@@ -2,9 +2,10 @@
 use mathlib.Core.List.{List, [], _∷_}
 use mathlib.Core.Path.{_≡_}
 use Prim.Native.Nat.{ℕ}
-use Rattle.method.specs.words.Types.{Seconds, Event, Damaged, Tick, Quoted, ShiftLine, EventAnswer, seconds, State}
+use Rattle.method.specs.words.Types.{Seconds, ShiftLine, EventAnswer, seconds, State}
 use Rattle.method.specs.words.Holds.{First, Done}
 use Rattle.method.specs.words.Sessions.{Answer, accepted, refused}
+use Rattle.method.specs.computed.Types.{Event, Damaged, Tick, Quoted}
 use Rattle.method.specs.computed.Shift.{onward}
 use Rattle.method.specs.computed.Event.{read, verdict, next}
 
@@ -31,7 +32,7 @@ Answers s [] (a ∷ rs) = ⊥
 Answers s (b ∷ bs) [] = ⊥
 Answers s (b ∷ bs) (a ∷ rs) = Right s (read b) a × Answers (next s (read b) a) bs rs
 
--- ---- of a list of answers: the state that it leaves, and its shift lines joined
+-- the state that a list of answers leaves
 unfoldable pub reached : State → List (List ℕ) → List Answer → State
 reached s [] rs = s
 reached s (b ∷ bs) [] = s

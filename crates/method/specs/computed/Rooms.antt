@@ -1,5 +1,5 @@
 -- The ranges of a session's numbers: what an accepted table tells of the lines that it opens, and what every shift and every event keep. The code
--- rests on them, no statement of a rule does.
+-- rests on them, and so does whoever takes a session up from a state that was kept (`Proper`).
 use mathlib.Core.Bool.{true, false}
 use mathlib.Core.Path.{_≡_}
 use Prim.Native.Nat.{ℕ, _≤_, _<_, _-_, _*_}
@@ -7,10 +7,10 @@ use lib.IntN.{pos}
 use lib.ListN.{length}
 use lib.Signed.{_≤ℤ_}
 use Rattle.numbers.specs.Ranges.{Within, Between, Span}
-use Rattle.method.specs.words.Types.{Up, Down, Terms, Market, Limits, Price, Absent, Given, Book, Hold, Idle, Since, Holds, Line, Event, Damaged, Tick, Quoted, seconds, State}
+use Rattle.method.specs.words.Types.{Up, Down, Terms, Market, Limits, Price, Absent, Given, Book, Hold, Idle, Since, Holds, Line, seconds, State, empty-book, no-holds}
 use Rattle.method.specs.words.Ranges.{permits-negative, Every}
 use Rattle.method.specs.words.Bounds.{bound}
-use Rattle.method.specs.words.Opening.{empty-book}
+use Rattle.method.specs.computed.Types.{Event, Damaged, Tick, Quoted}
 
 -- ---- a line; the factors are those up to the cap
 pub record FactorsIn (t : Terms) : Type 0 where
@@ -42,9 +42,6 @@ pub record LimitsIn (t : Terms) (m : Market) (k : Limits) : Type 0 where
   pub over-centre : (m .centre .0) ≤ℤ (k .upper .0)
   pub under-centre : (k .lower .0) ≤ℤ (m .centre .0)
   pub floor : Floor k (t .flags)
-
-abbrev pub no-holds : Holds
-no-holds = record { up = Idle; down = Idle }
 
 -- a line as it opens
 pub record LineIn (l : Line) : Type 0 where

@@ -6,8 +6,8 @@ use Prim.Native.Nat.{ℕ, _≤_}
 use lib.Dec.{ltb}
 use Rattle.method.specs.words.Types.{Millionths, Side, Hold, Idle, Since, Line, State}
 use Rattle.method.specs.words.Ranges.{Every}
-use Rattle.method.specs.words.Pressure.{presses, hold-of}
-use Rattle.method.specs.words.Holds.{Done}
+use Rattle.method.specs.words.Pressure.{presses}
+use Rattle.method.specs.words.Holds.{Done, hold-of}
 use Rattle.method.specs.computed.Opening.{ids}
 use Rattle.method.specs.computed.Rooms.{Sane}
 

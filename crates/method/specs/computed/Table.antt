@@ -6,9 +6,11 @@ use Prim.Native.Nat.{ℕ, _+_, suc}
 use lib.Dec.{ltb, leb, eqb}
 use lib.ListN.{length}
 use Rattle.numbers.specs.Tests.{in-range}
-use Rattle.method.specs.words.Types.{Header, Key, Contract, Line, TableReason, LineAnswer, demand}
+use Rattle.method.specs.words.Types.{Header, Key, Contract, Line, TableReason}
 use Rattle.method.specs.words.Layout.{header-of, contracts-start, table-length, keys-at, contracts-at}
 use Rattle.method.specs.words.Tables.{Opening, opened, refused, opening-state}
+use Rattle.method.specs.told.Questions.{demand}
+use Rattle.method.specs.computed.Types.{LineAnswer}
 use Rattle.method.specs.computed.Opening.{open-line}
 
 -- ---- the header: refusal 3, and the rest of refusal 1

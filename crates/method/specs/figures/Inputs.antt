@@ -3,13 +3,15 @@ use mathlib.Core.List.{List, [], _∷_, _++_}
 use Prim.Native.Nat.{ℕ, _+_, _*_, _/_, _%_}
 use lib.IntN.{ℤ, pos}
 use lib.ListN.{length}
-use Rattle.method.specs.words.Types.{Key, Contract, Up, Down, Line, LineAnswer, Row, steps, millionths}
+use Rattle.method.specs.words.Types.{Key, Contract, Up, Down, Line, steps, millionths}
 use Rattle.method.specs.words.Growth.{rate-at, exponent}
 use Rattle.method.specs.words.Bounds.{bound}
 use Rattle.method.specs.words.Opening.{market-of, terms-of, corridor}
 use Rattle.method.specs.words.Tables.{Opening, opened, refused}
+use Rattle.method.specs.told.Types.{Row}
 use Rattle.method.specs.told.Refusals.{table-number, event-number, mark}
 use Rattle.method.specs.told.Rows.{side-number}
+use Rattle.method.specs.computed.Types.{LineAnswer}
 use Rattle.method.specs.computed.Opening.{open-line}
 use Rattle.method.specs.computed.Shift.{moved-line}
 

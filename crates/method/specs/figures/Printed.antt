@@ -2,7 +2,7 @@
 use mathlib.Core.List.{[], _∷_}
 use mathlib.Core.Path.{_≡_, refl}
 use lib.IntN.{pos, negsuc}
-use Rattle.method.specs.words.Types.{Down, TableReason, EventReason, Row, steps, seconds}
+use Rattle.method.specs.words.Types.{Down, TableReason, EventReason, steps, seconds}
 use Rattle.method.specs.words.Wire.{word, signed, bit}
 use Rattle.method.specs.words.Layout.{header-of, key-at, contract-at, keys-at, contracts-at}
 use Rattle.method.specs.words.Growth.{between-keys, rate-from, rate-by-keys, rate-at, exponent, term, series, up-factor, down-factor, factors-of}
@@ -10,18 +10,19 @@ use Rattle.method.specs.words.Bounds.{factor, interest, bound}
 use Rattle.method.specs.words.Opening.{normal-price, half-width, market-of, half-move, terms-of, corridor-half, corridor, floored, fresh-line}
 use Rattle.method.specs.words.Tables.{opening-state}
 use Rattle.method.specs.words.Pressure.{close, presses}
+use Rattle.method.specs.told.Types.{Row}
 use Rattle.method.specs.told.Refusals.{table-number, event-number}
 use Rattle.method.specs.told.Questions.{known}
 use Rattle.method.specs.told.Rows.{rows-of, rows-of-all, closing-row}
 use Rattle.method.specs.told.Program.{pieces}
-use Rattle.method.specs.told.Text.{ascii, decimal-in, line-text, text-of, output}
+use Rattle.method.specs.told.Text.{ascii, decimal-in, line-text, text-of}
 use Rattle.method.specs.computed.Opening.{rates-good, fields-good, id-good, inside-bounds, opened-with, open-line}
 use Rattle.method.specs.computed.Table.{header-good, laid-out, key-good, bad-key, open-lines, open-records, opening}
 use Rattle.method.specs.computed.Judge.{judged, judge}
 use Rattle.method.specs.computed.Shift.{moved, redrawn, moved-line, shift-line, shifted, after}
 use Rattle.method.specs.computed.Event.{read-tick, read-quote, read, in-session, not-crossed, verdict, quoted-line, quoted, applied, next}
 use Rattle.method.specs.computed.Search.{due-of, ahead, sooner, passed, earliest, in-time, next-due, serve, answer, run, finally}
-use Rattle.method.specs.computed.Program.{session-rows, rows-after, program}
+use Rattle.method.specs.computed.Program.{session-rows, rows-after, program, output}
 use Rattle.method.specs.figures.Inputs.{sample, tick, empty, bid}
 
 -- One row of each kind; among their numbers are the largest id, negative ones and 0.

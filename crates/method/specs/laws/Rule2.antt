@@ -1,19 +1,23 @@
 -- What rule 2's words come to, of every session that begins in a state of which `From` holds: no shift is left out, late or made up, and they
--- come in order. The name in brackets is the theorem, in proofs/Rule2.
+-- come in order. What is late is counted from the start of a hold; that a hold starts with pressure and keeps its start is in the words (`Life`).
+-- The name in brackets is the theorem, in proofs/Rule2.
 use mathlib.Core.List.{List, _∷_, _++_}
 use mathlib.Core.Path.{_≡_}
 use Prim.Native.Nat.{ℕ, _+_, _≤_, _<_}
 use lib.ListN.{length}
-use Rattle.method.specs.words.Types.{Seconds, Side, Idle, ShiftLine, Due, seconds, State}
+use Rattle.method.specs.words.Types.{Seconds, Side, Idle, ShiftLine, Due, seconds, State, empty-book}
 use Rattle.method.specs.words.Wire.{word}
 use Rattle.method.specs.words.Layout.{header-of}
 use Rattle.method.specs.words.Ranges.{Every}
-use Rattle.method.specs.words.Holds.{Stands, Done}
+use Rattle.method.specs.words.Holds.{Stands, Done, hold-at}
 use Rattle.method.specs.words.Sessions.{Serves, Follows, Answer, AnswersInWords, joined}
-use Rattle.method.specs.words.Rules.{Opens, AfterAny, EverySession}
-use Rattle.method.specs.words.Opening.{empty-book}
-use Rattle.method.specs.laws.Seen.{AnyAccepted, Fixed, hold-at, HoldsExact, Rising, Answered, AtOnce}
+use Rattle.method.specs.words.Rules.{ExactlyOne, Opens, AfterAny}
+use Rattle.method.specs.laws.Seen.{AnyAccepted, Fixed, HoldsExact, Rising, Answered, AtOnce}
 use Rattle.method.specs.laws.Stages.{CalledFor, Reported}
+
+-- The words leave exactly one list of answers and one state, as `EverySession` says of what a table opens. (METHOD 24.7; rule2-one-session)
+abbrev pub OneSession : (State → Type 0) → Type 0
+OneSession From = (o : State) → From o → (bs : List (List ℕ)) → ExactlyOne (λ (r : List Answer × State). AnswersInWords o bs (r .0) (r .1))
 
 -- An accepted event at once, its shifts counted as in rule 3: the lines, their books, the shifts left and the clock.
 -- (METHOD 24.8, 24.9; rule2-at-once)
@@ -49,7 +53,7 @@ InOrder From = AfterAny From (λ o from bs rs s. Rising (joined rs))
 
 -- ---- none made up
 -- Each shift line c of the answer to b, after the lines cs of that answer, is called for by the hold that goes first, under which its line has
--- pressed without a break for the hold seconds. (METHOD 24.15; rule2-called-for)
+-- pressed without a break for the hold seconds, or since the session was taken up. (METHOD 24.15; rule2-called-for)
 abbrev pub EachLineCalledFor : (State → Type 0) → Type 0
 EachLineCalledFor From =
     (o : State) → From o → (past : List (List ℕ)) (told : List Answer) (s : State) (h : AnswersInWords o past told s) (b : List ℕ) (cs : List ShiftLine)
@@ -68,9 +72,9 @@ ShiftsCounted From = AfterAny From (λ o from bs rs s. length (joined rs) + s .l
 abbrev pub AtMostSixteen : (State → Type 0) → Type 0
 AtMostSixteen From = AnyAccepted From (λ s b cs n. length cs ≤ 16)
 
--- ---- all of it, with rule 2's own sentence: of what a table opens (rule2), and of what a host has kept (rule2-kept)
+-- ---- all of it: of what a table opens (rule2), and of what a host has kept (rule2-kept)
 pub record Rule2 (From : State → Type 0) : Type 0 where
-  pub every-session : EverySession From
+  pub one-session : OneSession From
   pub at-once : EventAtOnce From
   pub nothing-left : NothingLeft From
   pub none-missed : NoneMissed From

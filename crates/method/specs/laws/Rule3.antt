@@ -9,8 +9,8 @@ use Rattle.method.specs.words.Types.{Line, ShiftLine, seconds, State}
 use Rattle.method.specs.words.Wire.{word}
 use Rattle.method.specs.words.Shifts.{Each}
 use Rattle.method.specs.words.Sessions.{Serves, Follows, Answer, AnswersInWords, joined}
-use Rattle.method.specs.words.Corridor.{FloorMet}
-use Rattle.method.specs.words.Rules.{Opens, EachLine, Moment}
+use Rattle.method.specs.words.Margins.{FloorMet, Outward}
+use Rattle.method.specs.words.Rules.{EachLine, Moment}
 use Rattle.method.specs.laws.Seen.{Shifted, StaysFrozen}
 
 -- ---- the states of rule 2 are moments (METHOD 24.22)
@@ -29,11 +29,17 @@ ShiftsLead =
 abbrev pub FrozenTells : Type 0
 FrozenTells = EachLine (λ u d o l. (l .limits .frozen ≡ true) ↔ FloorMet o l)
 
--- What is frozen at a moment is so at any later one, at one step. (rule3-frozen-for-good)
-abbrev pub FrozenForGood : Type 0
-FrozenForGood =
-    (o s r : State) (cs ds : List ShiftLine) → Opens o → Moment o cs s → Moment s ds r
+-- What is frozen at a moment is so at any later one, at one step. (rule3-frozen-for-good, of what a host has kept frozen-for-good)
+abbrev pub FrozenForGood : (State → Type 0) → Type 0
+FrozenForGood From =
+    (o s r : State) (cs ds : List ShiftLine) → From o → Moment o cs s → Moment s ds r
     → Each StaysFrozen (s .lines) (r .lines)
+
+-- ---- no limit further inside, as `NeverInward` says of what a table opens, also of what a host has kept (never-inward)
+abbrev pub OnlyOutward : (State → Type 0) → Type 0
+OnlyOutward From =
+    (o s r : State) (cs ds : List ShiftLine) → From o → Moment o cs s → Moment s ds r
+    → Each Outward (s .lines) (r .lines)
 
 -- ---- all that rule 3 says of a line at once; `Centres`, `HalfWidthsGrow`, `UpperInside` and `LowerInside` are read off it (METHOD 24.26; rule3-lines)
 abbrev pub LinesShifted : Type 0

@@ -6,14 +6,15 @@ use mathlib.Core.Path.{_≡_}
 use Prim.Native.Nat.{ℕ, _+_, _≤_, _<_}
 use lib.IntN.{pos}
 use lib.ListN.{getD, length}
-use Rattle.method.specs.words.Types.{Seconds, Header, Side, Up, Down, Hold, Idle, Since, Line, ShiftLine, Due, seconds, State, blank}
+use Rattle.method.specs.words.Types.{Seconds, Header, Side, Up, Down, Idle, Since, Line, ShiftLine, Due, seconds, State, blank}
 use Rattle.method.specs.words.Wire.{word}
 use Rattle.method.specs.words.Ranges.{Every}
-use Rattle.method.specs.words.Pressure.{presses, hold-of}
+use Rattle.method.specs.words.Pressure.{presses}
+use Rattle.method.specs.words.Holds.{hold-at}
 use Rattle.method.specs.words.Books.{BookLife}
 use Rattle.method.specs.words.Shifts.{Each, count, Centre, HalfWidths}
 use Rattle.method.specs.words.Sessions.{SameTable, Follows}
-use Rattle.method.specs.words.Corridor.{margin, Lower}
+use Rattle.method.specs.words.Margins.{margin, Lower}
 use Rattle.method.specs.words.Rules.{AfterAny}
 
 -- after any events an event b that is accepted: s is the state before it, cs are its shift lines, n is the state after it
@@ -26,11 +27,7 @@ pub record Fixed (h : Header) (s : State) : Type 0 where
   pub hold : s .hold ≡ h .hold
   pub near : s .near ≡ h .near
 
--- ---- who calls
--- the hold of the line at a place (from 0) on a side, and whether that line presses there; past the last line neither is
-abbrev pub hold-at : Side → State → ℕ → Hold
-hold-at side s place = hold-of side (getD (s .lines) place blank .holds)
-
+-- whether the line at a place (from 0) presses on a side; past the last line none does
 abbrev pub presses-at : Side → State → ℕ → Bool
 presses-at side s place = presses side (s .near) (getD (s .lines) place blank)
 

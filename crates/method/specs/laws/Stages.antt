@@ -7,9 +7,9 @@ use Prim.Native.Nat.{ℕ, _+_, _<_}
 use Rattle.method.specs.words.Types.{Seconds, Side, Since, ShiftLine, seconds, State}
 use Rattle.method.specs.words.Wire.{word}
 use Rattle.method.specs.words.Ranges.{Every}
+use Rattle.method.specs.words.Holds.{hold-at}
 use Rattle.method.specs.words.Sessions.{Serves, nothing, first, Follows, taken, Answer, accepted, AnswersInWords, no-more, turned-away}
-use Rattle.method.specs.words.Rules.{start}
-use Rattle.method.specs.laws.Seen.{hold-at, presses-at, Caller, Timely}
+use Rattle.method.specs.laws.Seen.{presses-at, Caller, Timely}
 
 -- a stage has the second at which its state begins
 pub record Stage : Type 0 where

@@ -2,10 +2,11 @@
 use mathlib.Core.List.{List, [], _∷_, _++_, map}
 use Prim.Native.Nat.{ℕ, zero, suc, _+_, _/_}
 use lib.ListN.{length, take, drop}
-use Rattle.method.specs.words.Types.{TableReason, Row, State}
+use Rattle.method.specs.words.Types.{TableReason, State}
 use Rattle.method.specs.words.Layout.{header-of, table-length}
 use Rattle.method.specs.words.Tables.{opened, refused, TableAnswered}
 use Rattle.method.specs.words.Sessions.{Answer, AnswersInWords}
+use Rattle.method.specs.told.Types.{Row}
 use Rattle.method.specs.told.Rows.{rows-of-all, closing-row}
 
 -- n events of 20 bytes each; the last may be cut short, and is then no event (METHOD 22.2)

@@ -1,11 +1,19 @@
 -- The questions on one contract (METHOD 21): its limits, and where an order price lies. They know only refusal 13, serve nothing and know no time.
-use mathlib.Core.Bool.{cond, Bool, false, _||_}
+use mathlib.Core.Bool.{Bool, true, false, cond, _||_}
 use mathlib.Core.List.{List, [], _∷_}
 use Prim.Native.Nat.{ℕ}
 use lib.Dec.{eqb}
 use lib.Signed.{ltZ}
-use Rattle.method.specs.words.Types.{Steps, Limits, Line, EventReason, LimitsAnswer, PlaceAnswer, Below, Inside, Above, State, blank, demand}
+use Rattle.method.specs.words.Types.{Steps, Limits, Line, EventReason, State, blank}
+use Rattle.method.specs.told.Types.{LimitsAnswer, PlaceAnswer, Below, Inside, Above}
 
+-- ---- a choice by a test: `demand` goes on where the test holds, and refuses where it does not
+module _ {A : Type 0} where
+  abbrev pub demand : Bool → A → A → A
+  demand true refusal onward = onward
+  demand false refusal onward = refusal
+
+-- ---- the contract that is asked for
 -- whether an id is a contract's
 unfoldable pub known : ℕ → List Line → Bool
 known id [] = false
@@ -16,6 +24,7 @@ unfoldable pub line-of : ℕ → List Line → Line
 line-of id [] = blank
 line-of id (l ∷ ls) = cond (eqb (l .terms .id) id) l (line-of id ls)
 
+-- ---- the answers
 unfoldable pub limits : ℕ → State → LimitsAnswer
 limits id s =
     demand (known id (s .lines)) (LimitsAnswer.Refused EventReason.UnknownId) (LimitsAnswer.Standing (line-of id (s .lines) .limits))

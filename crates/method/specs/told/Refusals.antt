@@ -4,7 +4,8 @@ use mathlib.Core.Bool.{Bool, true, false}
 use mathlib.Core.List.{List, [], _∷_, _++_}
 use Prim.Native.Nat.{ℕ}
 use lib.IntN.{ℤ, pos, negsuc}
-use Rattle.method.specs.words.Types.{Limits, Price, Absent, Given, TableReason, EventReason, TableAnswer, EventAnswer, LimitsAnswer, PlaceAnswer, Below, Inside, Above, BothBounds, HoldReport, NoHold, Holding, Report, ReportAnswer}
+use Rattle.method.specs.words.Types.{Limits, Price, Absent, Given, TableReason, EventReason, EventAnswer}
+use Rattle.method.specs.told.Types.{TableAnswer, LimitsAnswer, PlaceAnswer, Below, Inside, Above, BothBounds, HoldReport, NoHold, Holding, Report, ReportAnswer}
 
 unfoldable pub table-number : TableReason → ℕ
 table-number TableReason.Length = 1

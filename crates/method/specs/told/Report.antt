@@ -2,9 +2,10 @@
 -- nothing: what it tells is as of the clock.
 use Prim.Native.Nat.{ℕ, _+_}
 use lib.IntN.{ℤ}
-use Rattle.method.specs.words.Types.{Steps, Seconds, Side, Up, Down, Hold, Idle, Since, Line, EventReason, BothBounds, HoldReport, NoHold, Holding, Report, ReportAnswer, steps, seconds, State, demand}
+use Rattle.method.specs.words.Types.{Steps, Seconds, Side, Up, Down, Hold, Idle, Since, Line, EventReason, steps, seconds, State}
 use Rattle.method.specs.words.Bounds.{market-bound, bound}
-use Rattle.method.specs.told.Questions.{known, line-of}
+use Rattle.method.specs.told.Types.{BothBounds, HoldReport, NoHold, Holding, Report, ReportAnswer}
+use Rattle.method.specs.told.Questions.{known, line-of, demand}
 
 -- the bounds of both sides, from the bound of each
 abbrev pub bounds-by : (Side → ℤ) → BothBounds

@@ -2,15 +2,16 @@
 use mathlib.Core.List.{List, [], _∷_, _++_, map}
 use Prim.Native.Nat.{ℕ, _+_}
 use lib.IntN.{ℤ, pos}
-use Rattle.method.specs.words.Types.{Side, Up, Down, Line, Row, steps}
+use Rattle.method.specs.words.Types.{Side, Up, Down, Line, steps}
 use Rattle.method.specs.words.Bounds.{bound}
-use Rattle.method.specs.words.Sessions.{Answer, accepted, refused as turned-away}
+use Rattle.method.specs.words.Sessions.{Answer, accepted, refused}
+use Rattle.method.specs.told.Types.{Row}
 use Rattle.method.specs.told.Refusals.{table-number, event-number}
 
 -- ---- the rows of an answer, and of all answers: one for each shift, and one for each refused event (METHOD 22.4)
 unfoldable pub rows-of : Answer → List Row
 rows-of (accepted cs) = map Row.Shift cs
-rows-of (turned-away why) = Row.RefusedEvent why ∷ []
+rows-of (refused why) = Row.RefusedEvent why ∷ []
 
 unfoldable pub rows-of-all : List Answer → List Row
 rows-of-all [] = []

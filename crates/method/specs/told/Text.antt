@@ -1,4 +1,5 @@
--- What the program prints, as bytes (METHOD 22): a number in decimals, a row as a line, and the whole output of an input.
+-- What the program prints, as bytes (METHOD 22): a number in decimals, a row as a line, and what is written for an input.
+use mathlib.Core.Path.{_≡_}
 use mathlib.Core.Bool.{cond}
 use mathlib.Core.List.{List, [], _∷_, _++_}
 use Prim.Native.Nat.{ℕ, zero, suc, _+_, _/_, _%_}
@@ -6,9 +7,10 @@ use Prim.Native.Char.{code}
 use Prim.Native.String.{String, [] as no-letter, _∷_ as _then_}
 use lib.Dec.{ltb}
 use lib.IntN.{ℤ, pos, negsuc}
-use Rattle.method.specs.words.Types.{Side, Up, Down, Row}
+use Rattle.method.specs.words.Types.{Side, Up, Down}
+use Rattle.method.specs.told.Types.{Row}
 use Rattle.method.specs.told.Refusals.{table-number, event-number}
-use Rattle.method.specs.computed.Program.{program}
+use Rattle.method.specs.told.Program.{Prints}
 
 -- a text in quotes as bytes: every letter in this file is one byte, its code
 abbrev pub ascii : String → List ℕ
@@ -59,10 +61,12 @@ line-text (Row.Closed c) =
     ∷ signed-text (c .upperbound .0)
     ∷ [])
 
--- ---- all rows, and the whole output of an input
+-- ---- all rows, and what an input comes to
 abbrev pub text-of : List Row → List ℕ
 text-of [] = []
 text-of (row ∷ rows) = line-text row ++ text-of rows
 
-abbrev pub output : List ℕ → List ℕ
-output input = text-of (program input)
+pub record Writes (input bytes : List ℕ) : Type 0 where
+  pub rows : List Row
+  pub prints : Prints input rows
+  pub text : bytes ≡ text-of rows

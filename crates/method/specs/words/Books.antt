@@ -1,4 +1,4 @@
--- What an event makes of a book (METHOD 12, 19).
+-- What an event makes of a book (METHOD 12).
 use mathlib.Core.Bool.{Bool, true, false}
 use mathlib.Core.List.{List}
 use mathlib.Core.Path.{_≡_}

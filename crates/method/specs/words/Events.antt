@@ -10,7 +10,6 @@ use Rattle.numbers.specs.Ranges.{Within}
 use Rattle.method.specs.words.Types.{EventReason, EventAnswer, State}
 use Rattle.method.specs.words.Wire.{word, signed, bit}
 use Rattle.method.specs.words.Ranges.{Every}
-use Rattle.method.specs.words.Tables.{id}
 
 -- ---- a byte string that is an event (METHOD 12)
 -- a price field: 0 where its flag does not say present

@@ -1,15 +1,22 @@
--- Holds: which one goes first, what is left to serve, and what becomes of a hold (METHOD 14, 15).
+-- Holds: which one goes first, what is left to serve, and what becomes of a hold (METHOD 14 to 17).
 use mathlib.Core.Bool.{Bool, true, false}
 use mathlib.Core.Path.{_≡_}
 use Prim.Native.Nat.{ℕ, _+_, _≤_, _<_}
 use lib.ListN.{getD}
-use Rattle.method.specs.words.Types.{Seconds, Side, Up, Down, Hold, Idle, Since, ShiftLine, Due, State, blank}
-use Rattle.method.specs.words.Pressure.{hold-of}
+use Rattle.method.specs.words.Types.{Seconds, Side, Up, Down, Hold, Idle, Since, Holds, ShiftLine, Due, State, blank}
 
--- a hold that stands, and when it is due (METHOD 14.1, 14.6)
+-- the hold of a side, of a line's and of the line at a place of the table, from 0 (METHOD 14.1)
+abbrev pub hold-of : Side → Holds → Hold
+hold-of Up h = h .up
+hold-of Down h = h .down
+
+abbrev pub hold-at : Side → State → ℕ → Hold
+hold-at side s place = hold-of side (getD (s .lines) place blank .holds)
+
+-- a hold that stands, and when it is due (METHOD 14.6)
 pub record Stands (s : State) (x : Due) : Type 0 where
   pub start : Seconds
-  pub held : hold-of (x .side) (getD (s .lines) (x .place) blank .holds) ≡ Since start
+  pub held : hold-at (x .side) s (x .place) ≡ Since start
   pub due : x .second .0 ≡ start .0 + s .hold .0
 
 -- of two holds, the one that goes first (METHOD 15.2)
@@ -21,8 +28,8 @@ pub data Ahead (x y : Due) : Type 0 where
 abbrev pub due-at : ShiftLine → ℕ → Due
 due-at c place = record { second = c .second; side = c .side; place = place }
 
--- c is the shift line of the hold that goes first of all that stand, and that hold is due by t and before session end (METHOD 15.3, 17.1). That
--- shifts are left needs no test: where none is left, no hold stands (`Life`).
+-- c is the shift line of the hold that goes first of all that stand, and that hold is due by t and before session end (METHOD 15.1, 15.2, 15.3,
+-- 17.1). That shifts are left is in the step itself (`ShiftedTo`); in a session no hold stands where none is left (`Life`).
 pub record First (t : Seconds) (s : State) (c : ShiftLine) : Type 0 where
   pub place : ℕ
   pub stands : Stands s (due-at c place)

@@ -1,11 +1,11 @@
--- The line that a contract opens: its market, its terms, its corridor (METHOD 7, 9, 10).
+-- The line that a contract opens: its market, its terms, its corridor (METHOD 5, 7, 9, 10).
 use mathlib.Core.Bool.{cond, Bool, true, false}
 use mathlib.Core.List.{List}
 use Prim.Native.Nat.{ℕ}
 use lib.IntN.{ℤ, pos, _+ℤ_, _-ℤ_, _*ℤ_, natAbs}
 use lib.Signed.{ltZ}
 use Rattle.numbers.specs.Rounding.{floor, ceiling}
-use Rattle.method.specs.words.Types.{Steps, Millionths, Key, Contract, Up, Down, Terms, Market, Limits, Absent, Book, Idle, Line, steps}
+use Rattle.method.specs.words.Types.{Steps, Millionths, Key, Contract, Up, Down, Terms, Market, Limits, Line, steps, empty-book, no-holds}
 use Rattle.method.specs.words.Ranges.{permits-negative}
 use Rattle.method.specs.words.Growth.{rate-at, exponent, factors-of}
 use Rattle.method.specs.words.Bounds.{bound}
@@ -55,9 +55,6 @@ unfoldable pub floored : Bool → Limits → Limits
 floored true k = k
 floored false k = cond (ltZ (k .lower .0) (pos 1)) (record { upper = k .upper; lower = steps (pos 1); frozen = true }) k
 
-abbrev pub empty-book : Book
-empty-book = record { bid = Absent; ask = Absent }
-
 -- with an empty book there is no pressure yet, and so no hold (METHOD 9.5)
 unfoldable pub fresh-line : Terms → Market → Limits → Line
 fresh-line t m k =
@@ -66,7 +63,7 @@ fresh-line t m k =
       market = m;
       limits = floored (permits-negative (t .flags)) k;
       book = empty-book;
-      holds = record { up = Idle; down = Idle };
+      holds = no-holds;
     }
 
 -- a contract's exponent, by the table's keys (METHOD 5.1)

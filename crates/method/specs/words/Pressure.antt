@@ -2,7 +2,7 @@
 use mathlib.Core.Bool.{Bool, false, _&&_, not}
 use lib.IntN.{ℤ, pos, _-ℤ_, _*ℤ_}
 use lib.Signed.{ltZ}
-use Rattle.method.specs.words.Types.{Millionths, Side, Up, Down, Limits, Price, Absent, Given, Book, Hold, Holds, Line}
+use Rattle.method.specs.words.Types.{Millionths, Side, Up, Down, Limits, Price, Absent, Given, Book, Line}
 use Rattle.method.specs.words.Ranges.{under-watch}
 
 -- a distance from a limit that is less than the near share of the corridor's width (METHOD 13.4)
@@ -24,7 +24,3 @@ price Down b = b .ask
 -- only under watch (METHOD 13.1)
 unfoldable pub presses : Side → Millionths → Line → Bool
 presses side near l = under-watch (l .terms .flags) && close side near (l .limits) (price side (l .book))
-
-abbrev pub hold-of : Side → Holds → Hold
-hold-of Up h = h .up
-hold-of Down h = h .down

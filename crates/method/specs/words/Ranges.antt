@@ -9,7 +9,7 @@ use Rattle.numbers.specs.Ranges.{Within, Between, Span}
 use Rattle.method.specs.words.Types.{Header, Key, Contract}
 use Rattle.method.specs.words.Wire.{bit}
 
--- ---- the two flags of a contract (METHOD 3.3)
+-- ---- the two flags of a contract (METHOD 3.6)
 abbrev pub permits-negative : ℕ → Bool
 permits-negative flags = bit 0 flags
 

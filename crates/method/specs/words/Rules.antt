@@ -2,6 +2,7 @@
 -- proofs file of the rule's name. That tables are accepted and shifts are made at all, so that no statement is empty, is in the figures
 -- (`starred-claim`, `examples-claim`).
 use mathlib.Core.List.{List, [], _∷_, _++_}
+use mathlib.Core.Logic.{_↔_}
 use mathlib.Core.Path.{_≡_}
 use Prim.Native.Nat.{ℕ, _+_, _≤_}
 use Rattle.method.specs.words.Types.{Seconds, Up, Down, Line, ShiftLine, TableReason, EventReason, EventAnswer, State}
@@ -11,7 +12,7 @@ use Rattle.method.specs.words.Events.{EventAnswered}
 use Rattle.method.specs.words.Holds.{First}
 use Rattle.method.specs.words.Shifts.{Each, count, Centre, HalfWidths}
 use Rattle.method.specs.words.Sessions.{ShiftedTo, AppliedTo, Answer, AnswersInWords, joined, Struck}
-use Rattle.method.specs.words.Corridor.{margin, Lower, Outward}
+use Rattle.method.specs.words.Margins.{margin, Lower, Outward}
 
 -- ---- exactly one
 pub record ExactlyOne {A : Type 0} (P : A → Type 0) : Type 0 where
@@ -51,8 +52,8 @@ pub data Moment (o : State) : List ShiftLine → State → Type 0 where
 abbrev pub EveryTable : Type 0
 EveryTable = (b : List ℕ) → ExactlyOne (TableAnswered b)
 
--- Every byte string, in every state, is accepted or refused with a number: exactly one of the answers of `EventAnswered`.
--- (METHOD 24.2; rule1-every-event)
+-- Every byte string, in every state, is accepted or refused with a number: exactly one of the answers of `EventAnswered`. Which shift lines and
+-- which state follow is rule 2. (METHOD 24.2; rule1-every-event)
 abbrev pub EveryEvent : Type 0
 EveryEvent = (s : State) (b : List ℕ) → ExactlyOne (EventAnswered s b)
 
@@ -60,19 +61,22 @@ EveryEvent = (s : State) (b : List ℕ) → ExactlyOne (EventAnswered s b)
 abbrev pub RefusedOpensNothing : Type 0
 RefusedOpensNothing = (b : List ℕ) (why : TableReason) (line : ℕ) → TableAnswered b (refused why line) → (s : State) → TableAnswered b (opened s) → ⊥
 
--- A refused event can be struck out, from any state and after any events. That no input bytes are written needs no statement here, where a byte
--- string is a value; the code takes its input to read only. (METHOD 24.4, 24.5; rule1-refused-event)
+-- An event that is refused for `why` in the state m that the byte strings `past` leave can be struck out of any list: it is answered with its
+-- refusal, hence with no shift line, and all other answers and the state, its clock included, are those without it. That no input bytes are
+-- written needs no statement here, where a byte string is a value; the code takes its input to read only.
+-- (METHOD 24.4, 24.5; rule1-refused-event)
 abbrev pub RefusedChangesNothing : Type 0
 RefusedChangesNothing =
     (o : State) (past : List (List ℕ)) (told : List Answer) (m : State) (b : List ℕ) (why : EventReason) → AnswersInWords o past told m
-    → EventAnswered m b (EventAnswer.Refused why) → Struck o past told m b why
+    → EventAnswered m b (EventAnswer.Refused why) → (rest : List (List ℕ)) (qs : List Answer) (n : State)
+    → AnswersInWords o (past ++ b ∷ rest) qs n ↔ Struck o past told why rest qs n
 
 -- ==== RULE 2
--- From a state o of which `From o` holds, whatever byte strings follow, the words of `AnswersInWords` leave exactly one list of answers and one
--- state after them, the whole of it. It is proved of the states that a table opens, and of any that a host may have kept of a session. What
--- those words come to is in laws. (METHOD 24.7; rule2-every-session)
-abbrev pub EverySession : (State → Type 0) → Type 0
-EverySession From = (o : State) → From o → (bs : List (List ℕ)) → ExactlyOne (λ (r : List Answer × State). AnswersInWords o bs (r .0) (r .1))
+-- From every state that a table opens, whatever byte strings follow, the words of `AnswersInWords` leave exactly one list of answers and one state
+-- after them, the whole of it. What those words come to, and that it holds from any state that a host may have kept of a session, is in laws.
+-- (METHOD 24.7; rule2-every-session)
+abbrev pub EverySession : Type 0
+EverySession = (o : State) → Opens o → (bs : List (List ℕ)) → ExactlyOne (λ (r : List Answer × State). AnswersInWords o bs (r .0) (r .1))
 
 -- ==== RULE 3
 -- The shifts counted are those of the answers, so that they are the shifts that rule 2 calls for.

@@ -1,20 +1,20 @@
 -- A session in words, step by step and with nothing computed in them: what a shift and an event make of the whole state, and which answers a list
--- of byte strings has, with the state that it leaves (METHOD 15, 18, 19).
+-- of byte strings has, with the state that it leaves (METHOD 15, 16, 18, 19).
 use mathlib.Core.List.{List, [], _∷_, _++_}
-use mathlib.Core.Logic.{_↔_}
 use mathlib.Core.Path.{_≡_}
 use Prim.Native.Nat.{ℕ, _+_}
 use Rattle.method.specs.words.Types.{Millionths, Seconds, Side, Line, ShiftLine, EventReason, EventAnswer, seconds, State}
 use Rattle.method.specs.words.Wire.{word}
 use Rattle.method.specs.words.Events.{EventAnswered}
-use Rattle.method.specs.words.Pressure.{presses, hold-of}
-use Rattle.method.specs.words.Holds.{First, Done, Life}
+use Rattle.method.specs.words.Pressure.{presses}
+use Rattle.method.specs.words.Holds.{First, Done, Life, hold-of}
 use Rattle.method.specs.words.Books.{BookLife}
 use Rattle.method.specs.words.Shifts.{Each, LineShifted}
 
 -- ---- one event, from line l to line n
--- the book of the line that it quotes is replaced, and so its pressure may start or end (METHOD 14.4)
-pub record LineTold (near : Millionths) (left : ℕ) (b : List ℕ) (l n : Line) : Type 0 where
+-- The book of the line that it quotes is replaced (METHOD 12.4). Holds are judged on every line; where the book stays, so does pressure, and with
+-- it the hold (METHOD 14.4).
+pub record LineApplied (near : Millionths) (left : ℕ) (b : List ℕ) (l n : Line) : Type 0 where
   pub terms : n .terms ≡ l .terms
   pub market : n .market ≡ l .market
   pub limits : n .limits ≡ l .limits
@@ -28,7 +28,7 @@ pub record SameTable (s n : State) : Type 0 where
   pub hold : n .hold ≡ s .hold
   pub near : n .near ≡ s .near
 
--- A shift: every line of the table, in its place, and one less of the shifts that are left. The clock waits for the event. (METHOD 16.6, 16.8)
+-- A shift: every line of the table, in its place, and one less of the shifts that are left. The clock waits for the event. (METHOD 16.6, 16.7, 16.8)
 pub record ShiftedTo (s : State) (c : ShiftLine) (n : State) : Type 0 where
   pub lines : Each (LineShifted (s .near) (n .left) c) (s .lines) (n .lines)
   pub left : n .left + 1 ≡ s .left
@@ -37,7 +37,7 @@ pub record ShiftedTo (s : State) (c : ShiftLine) (n : State) : Type 0 where
 
 -- an event that is applied (METHOD 15.5)
 pub record AppliedTo (s : State) (b : List ℕ) (n : State) : Type 0 where
-  pub lines : Each (LineTold (s .near) (s .left) b) (s .lines) (n .lines)
+  pub lines : Each (LineApplied (s .near) (s .left) b) (s .lines) (n .lines)
   pub left : n .left ≡ s .left
   pub clock : n .clock ≡ seconds (word b 0)
   pub table : SameTable s n
@@ -80,11 +80,9 @@ unfoldable pub joined : List Answer → List ShiftLine
 joined [] = []
 joined (a ∷ rs) = lines-of a ++ joined rs
 
--- ---- a refused event
--- The event b, refused for `why` in the state m that the byte strings `past` leave, can be struck out of the list: it alone is answered with its
--- refusal, hence with no shift line, and leaves the whole of m, its clock included; and whatever comes later, the other answers and the state
--- are those without it.
-pub record Struck (o : State) (past : List (List ℕ)) (told : List Answer) (m : State) (b : List ℕ) (why : EventReason) : Type 0 where
-  pub answer : (rs : List Answer) (n : State) → AnswersInWords m (b ∷ []) rs n ↔ ((rs ≡ refused why ∷ []) × (n ≡ m))
-  pub later : (rest : List (List ℕ)) (more : List Answer) (n : State)
-      → AnswersInWords o (past ++ b ∷ rest) (told ++ refused why ∷ more) n ↔ AnswersInWords o (past ++ rest) (told ++ more) n
+-- ---- a refused event struck out
+-- qs are the answers told, then a refusal for `why`, and then those that `rest` has without the refused event
+pub record Struck (o : State) (past : List (List ℕ)) (told : List Answer) (why : EventReason) (rest : List (List ℕ)) (qs : List Answer) (n : State) : Type 0 where
+  pub more : List Answer
+  pub answers : qs ≡ told ++ refused why ∷ more
+  pub without : AnswersInWords o (past ++ rest) (told ++ more) n

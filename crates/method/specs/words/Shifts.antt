@@ -8,8 +8,8 @@ use lib.Signed.{_≤ℤ_, _<ℤ_}
 use Rattle.method.specs.words.Types.{Steps, Millionths, Side, Up, Down, Line, ShiftLine}
 use Rattle.method.specs.words.Ranges.{permits-negative}
 use Rattle.method.specs.words.Bounds.{bound}
-use Rattle.method.specs.words.Pressure.{presses, hold-of}
-use Rattle.method.specs.words.Holds.{Life, remaining}
+use Rattle.method.specs.words.Pressure.{presses}
+use Rattle.method.specs.words.Holds.{Life, remaining, hold-of}
 
 -- ---- a relation between two lists of lines, line by line: no line is left out, and none is added
 unfoldable pub Each : (Line → Line → Type 0) → List Line → List Line → Type 0

@@ -1,18 +1,9 @@
--- The data of the method, as src/lib.rt declares them, and the state of a session (METHOD 1, 11.9).
--- A case that several enums have is written behind its enum, as `LineAnswer.Opened`.
-use mathlib.Core.Bool.{Bool, true, false}
+-- The data of the method, as src/lib.rt declares them, and the state of a session (METHOD 1, 11.9, 18.4).
+-- A case that several enums have is written behind its enum, as `EventAnswer.Refused`.
+use mathlib.Core.Bool.{false}
 use mathlib.Core.List.{List}
 use Prim.Native.Nat.{ℕ}
 use lib.IntN.{ℤ, pos}
-use Rattle.numbers.specs.declared.Billionths.{Billionths}
-use Rattle.numbers.specs.declared.Millionths.{Millionths}
-use Rattle.numbers.specs.declared.Seconds.{Seconds}
-use Rattle.numbers.specs.declared.Steps.{Steps}
-use Rattle.method.specs.declared.Hold.the-variants.{Idle}
-use Rattle.method.specs.declared.Line.{Line}
-use Rattle.method.specs.declared.Price.the-variants.{Absent}
-use Rattle.method.specs.declared.Side.{Side}
-use Rattle.method.specs.declared.Side.the-variants.{Up, Down}
 pub use Rattle.numbers.specs.declared.Steps.{Steps}
 pub use Rattle.numbers.specs.declared.Millionths.{Millionths}
 pub use Rattle.numbers.specs.declared.Seconds.{Seconds}
@@ -33,29 +24,11 @@ pub use Rattle.method.specs.declared.Hold.{Hold}
 pub use Rattle.method.specs.declared.Hold.the-variants.{Idle, Since}
 pub use Rattle.method.specs.declared.Holds.{Holds}
 pub use Rattle.method.specs.declared.Line.{Line}
-pub use Rattle.method.specs.declared.Quote.{Quote}
-pub use Rattle.method.specs.declared.Event.{Event}
-pub use Rattle.method.specs.declared.Event.the-variants.{Damaged, Tick, Quoted}
 pub use Rattle.method.specs.declared.ShiftLine.{ShiftLine}
 pub use Rattle.method.specs.declared.Due.{Due}
-pub use Rattle.method.specs.declared.Found.{Found}
-pub use Rattle.method.specs.declared.Found.the-variants.{Nothing, At}
 pub use Rattle.method.specs.declared.TableReason.{TableReason}
 pub use Rattle.method.specs.declared.EventReason.{EventReason}
-pub use Rattle.method.specs.declared.LineAnswer.{LineAnswer}
-pub use Rattle.method.specs.declared.TableAnswer.{TableAnswer}
 pub use Rattle.method.specs.declared.EventAnswer.{EventAnswer}
-pub use Rattle.method.specs.declared.LimitsAnswer.{LimitsAnswer}
-pub use Rattle.method.specs.declared.PlaceAnswer.{PlaceAnswer}
-pub use Rattle.method.specs.declared.PlaceAnswer.the-variants.{Below, Inside, Above}
-pub use Rattle.method.specs.declared.BothBounds.{BothBounds}
-pub use Rattle.method.specs.declared.HoldTimes.{HoldTimes}
-pub use Rattle.method.specs.declared.HoldReport.{HoldReport}
-pub use Rattle.method.specs.declared.HoldReport.the-variants.{NoHold, Holding}
-pub use Rattle.method.specs.declared.Report.{Report}
-pub use Rattle.method.specs.declared.ReportAnswer.{ReportAnswer}
-pub use Rattle.method.specs.declared.Closing.{Closing}
-pub use Rattle.method.specs.declared.Row.{Row}
 
 -- ---- a number with its unit
 abbrev pub steps : ℤ → Steps
@@ -79,6 +52,12 @@ pub record State : Type 0 where
   pub left : ℕ
   pub near : Millionths
 
+abbrev pub empty-book : Book
+empty-book = record { bid = Absent; ask = Absent }
+
+abbrev pub no-holds : Holds
+no-holds = record { up = Idle; down = Idle }
+
 -- what is read past the last line
 abbrev pub blank : Line
 blank =
@@ -93,12 +72,6 @@ blank =
           };
       market = record { centre = steps (pos 0); half1 = steps (pos 0); half2 = steps (pos 0); half3 = steps (pos 0) };
       limits = record { upper = steps (pos 0); lower = steps (pos 0); frozen = false };
-      book = record { bid = Absent; ask = Absent };
-      holds = record { up = Idle; down = Idle };
+      book = empty-book;
+      holds = no-holds;
     }
-
--- ---- a choice by a test: `demand` goes on where the test holds, and refuses where it does not
-module _ {A : Type 0} where
-  abbrev pub demand : Bool → A → A → A
-  demand true refusal onward = onward
-  demand false refusal onward = refusal

@@ -1,7 +1,6 @@
 -- How far inside its interest bound a limit stands, and what the floor of one step does to that (METHOD 24.22 to 24.25).
 use mathlib.Core.Bool.{true, false}
 use mathlib.Core.Path.{_≡_}
-use Prim.Native.Nat.{_+_}
 use lib.IntN.{ℤ, pos, _+ℤ_, _-ℤ_}
 use lib.Signed.{_≤ℤ_, _<ℤ_}
 use Rattle.method.specs.words.Types.{Side, Up, Down, Line}
