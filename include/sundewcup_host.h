@@ -23,7 +23,8 @@
  *    7  a contract's exponent is beyond its cap             14  the quote's bid is above its ask
  *                                                           99  the memory holds no sound session
  *
- * A refused event, 10 to 14, changes nothing: every number of the session is as it was. Prices are in whole minimum steps,
+ * A refused event, 10 to 14, changes nothing: `sundewcup_event` leaves every number of the session as it was, and after
+ * `sundewcup_feed` it is the same session, in numbers of the library's own. Prices are in whole minimum steps,
  * times in seconds from session start. A question is answered as of the clock: whoever asks in second t sends a tick at t
  * first, since a hold may have fallen due meanwhile.
  */
@@ -138,7 +139,7 @@ int64_t sundewcup_report(const sundewcup_session *session, uint32_t id, int64_t 
 size_t sundewcup_close(const sundewcup_session *session, int64_t *out, size_t out_length);
 
 /*
- * Whether the memory holds a sound session: 0, or SUNDEWCUP_DAMAGED. It is what every function tests; asked once of a
+ * Whether the memory holds a sound session: 0, or SUNDEWCUP_DAMAGED. It is what the functions that test do first; asked once of a
  * snapshot that comes from elsewhere, it makes the functions with `_unchecked` safe on it.
  */
 int64_t sundewcup_check(const sundewcup_session *session);

@@ -13,13 +13,13 @@ use method::Row;
 use method::TableReason;
 
 // The session that a chunk leaves, and how many bytes its answers have.
-pub(crate) struct Told {
+pub(crate) struct Answered {
     pub(crate) session: Session,
     pub(crate) size: usize,
 }
 
 // A chunk of events.
-pub(crate) fn chunk(s: Session, events: &[u8], numbers: &mut [i64], buffer: &mut [u8]) -> Told
+pub(crate) fn chunk(s: Session, events: &[u8], numbers: &mut [i64], buffer: &mut [u8]) -> Answered
     requires { ⌜ Valid s × (room (length (now events)) ≤ length (now numbers)) × (20 * room (length (now events)) ≤ length (now buffer)) ⌝ }
     ensures { λ r. ⌜ r .session ≡ left-by s (now (events .entry)) ⌝ }
     ensures { λ r. ⌜ Begins (now (buffer .exit)) (r .size) (told-text s (now (events .entry))) ⌝ }
@@ -28,7 +28,7 @@ pub(crate) fn chunk(s: Session, events: &[u8], numbers: &mut [i64], buffer: &mut
     let count = a.count;
     let size = text::lines(&numbers[..count], buffer);
     let session = a.session;
-    Told {
+    Answered {
         session: session,
         size: size,
     }

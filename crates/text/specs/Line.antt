@@ -37,13 +37,13 @@ refused-event-text row = line-with (ascii "R" ∷ field row 1 ∷ [])
 abbrev pub refused-table-text : List ℤ → List ℕ
 refused-table-text row = line-with (ascii "T" ∷ field row 1 ∷ field row 2 ∷ [])
 
-abbrev pub closing-text : List ℤ → List ℕ
-closing-text row = line-with (field row 1 ∷ field row 2 ∷ field row 3 ∷ field row 4 ∷ field row 5 ∷ [])
+abbrev pub closed-text : List ℤ → List ℕ
+closed-text row = line-with (field row 1 ∷ field row 2 ∷ field row 3 ∷ field row 4 ∷ field row 5 ∷ [])
 
 unfoldable pub numbers-text : List ℤ → List ℕ
 numbers-text row =
     let kind : ℤ = number row 0 in
-    cond (is kind 1) (shift-text row) (cond (is kind 2) (refused-event-text row) (cond (is kind 3) (refused-table-text row) (closing-text row)))
+    cond (is kind 1) (shift-text row) (cond (is kind 2) (refused-event-text row) (cond (is kind 3) (refused-table-text row) (closed-text row)))
 
 -- the lines of the first n rows of six, and of all
 unfoldable pub lines-text : ℕ → List ℤ → List ℕ

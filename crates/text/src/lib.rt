@@ -13,7 +13,7 @@ ghost use Rattle.text.specs.Line.{
   shift-text,
   refused-event-text,
   refused-table-text,
-  closing-text,
+  closed-text,
   numbers-text,
   all-text,
   Put,
@@ -125,7 +125,7 @@ fn refused_table(row: [i64; 6], buffer: &mut [u8], at: usize) -> usize
 // A closing line: the id, both limits, both interest bounds.
 fn closing(row: [i64; 6], buffer: &mut [u8], at: usize) -> usize
     requires { ⌜ at + 110 ≤ length (now buffer) ⌝ }
-    ensures { λ r. ⌜ Put (now (buffer .entry)) at (closing-text row) (now (buffer .exit)) r ⌝ }
+    ensures { λ r. ⌜ Put (now (buffer .entry)) at (closed-text row) (now (buffer .exit)) r ⌝ }
     ensures { λ r. ⌜ r ≤ at + 110 ⌝ }
 {
     let id = put(buffer, at, row[1], b' ');
