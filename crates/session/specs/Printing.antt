@@ -2,9 +2,10 @@
 -- method says is written for the whole input.
 --
 -- The contracts of `answers::chunk`, `answers::closing` and `answers::refusal` name these texts, that of `reading::table_end` the end of the
--- table, and that of `events::answer_events` the session that the chunks leave. Outside of all contracts, and read off the code, are only the
--- calls of read and write: that `reading::fill` puts the next bytes of the input into a slice, fewer than it has only at the input's end; and
--- that `print_refusal`, the loop of `answer_events` and `answer_all` hand each text to write, once and in this order.
+-- table, and that of `events::answer_events` a session that some chunks leave. Outside of all contracts, since these cannot speak of what is read
+-- and written, and to be read off the code: that `reading::fill` puts the next bytes of the input into a slice, fewer than it has only at the
+-- input's end, and that `reading::table` reads so up to `table-end`; that `answer_events` goes on while a chunk is full, and `answer_all` closes
+-- where the input ended; and that they and `print_refusal` hand each text to write, once and in this order.
 use mathlib.Core.Path.{_≡_}
 use mathlib.Core.List.{List, [], _∷_, map}
 use Prim.Native.Nat.{ℕ}

@@ -1,9 +1,9 @@
 // Program "session": a table and then its events from standard input; shifts, refusals and closing lines to standard output.
 //
-// What is read and what is written no contract can say. All that lies between a read and a write is in functions on slices, whose contracts
-// are equations; specs/Printing.antt joins them, and says what is left outside. Where a read fails, nothing more is printed, and no closing
-// lines: a failure is not the end of the input. Where a write fails, the program stops. Its exit status is 0 all the same, since the language
-// has no other; that closing lines are missing tells it.
+// What is read and what is written no contract can say. Every text that is written is made by a function on slices, whose contract is an
+// equation; specs/Printing.antt joins them, and says what is left outside. Where a read fails, nothing more is printed, and no closing lines:
+// a failure is not the end of the input. Where a write fails, the program stops. Its exit status is 0 all the same, since the language has no
+// other; an output that ends otherwise than in a `T` line or the last closing line tells it.
 
 ghost use mathlib.Core.Path.{_≡_};
 ghost use lib.ListN.{length};
