@@ -1,4 +1,4 @@
--- What is computed is what the words admit: a theorem for each statement of specs/Computed, in its order. Assumes nothing.
+-- What is computed is what the words admit: a theorem for each statement of computed/Equal. Assumes nothing.
 use mathlib.Core.Path.{_≡_, refl, ap, _∙_, subst}
 use mathlib.Core.List.{List, _++_, map}
 use Prim.Native.Nat.{ℕ}

@@ -1,4 +1,4 @@
--- Ticks are free: a theorem for each statement of specs/Ticks. Assumes nothing.
+-- Ticks are free: a theorem for each statement of laws/Ticks. Assumes nothing.
 use mathlib.Core.Path.{sym, _∙_, subst}
 use mathlib.Core.List.{_∷_, _++_, append-assoc}
 use Rattle.method.specs.words.Types.{State}
