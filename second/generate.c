@@ -412,14 +412,15 @@ static void damage(Random *random, TableDraft *draft, Refusal aim)
 
 /* ---- Good events ---- */
 
-/* How one input goes on: its session, how often its quotes are about the upper limit and keep on pressing, and
-   how often its events are spoiled. */
+/* How one input goes on: its session, how often its quotes are about the upper limit and keep on pressing, how
+   often its events are spoiled, and the latest second that the next good event may have. */
 typedef struct {
     Random *random;
     Session session;
     int64_t upper_percent;
     int64_t steady_percent;
     int64_t spoiled_percent;
+    int64_t latest;
 } Course;
 
 static int64_t due_of_some_hold(Course *course)
@@ -460,7 +461,8 @@ static uint32_t make_time(Course *course)
     } else if (kind < 490) {
         time = end - between(random, 0, 2);
     }
-    return (uint32_t)clamp(time, clock, end);
+    time = clamp(time, clock, end);
+    return (uint32_t)(time > course->latest ? clock : time);
 }
 
 /* How far from its limit a price lies: around the border of pressure, pressing, or anywhere. */
@@ -623,6 +625,7 @@ static size_t add_events(Course *course, uint8_t *bytes)
 {
     Random *random = course->random;
     choose_course(course);
+    course->latest = course->session.session_end.seconds;
     size_t length = 0;
     for (int64_t left = make_event_count(random); left > 0; left--) {
         length += add_event(course, bytes + length);
@@ -700,6 +703,14 @@ size_t generate_input(uint64_t seed, uint64_t number, uint8_t input[LONGEST_INPU
     return length;
 }
 
+/* After half of the events, say, the clock is not yet beyond half of the session, and it waits where more than half of
+   the shifts are made. */
+static int64_t latest_in_long_input(const Session *session, int64_t taken)
+{
+    bool shifts_ahead = session->shifts_made * EVENTS_OF_LONG_INPUT > session->most_shifts * taken;
+    return shifts_ahead ? session->clock.seconds : session->session_end.seconds * taken / EVENTS_OF_LONG_INPUT;
+}
+
 size_t generate_long_input(uint64_t seed, uint64_t number, uint8_t input[LONGEST_LONG_INPUT])
 {
     Random random = random_of(seed, number);
@@ -708,7 +719,8 @@ size_t generate_long_input(uint64_t seed, uint64_t number, uint8_t input[LONGEST
     size_t length = draft_write_table(&draft, input);
     corridor_open(input, length, &course.session);
     choose_course(&course);
-    for (int left = EVENTS_OF_LONG_INPUT; left > 0; left--) {
+    for (int taken = 0; taken < EVENTS_OF_LONG_INPUT; taken++) {
+        course.latest = latest_in_long_input(&course.session, taken);
         EventDraft tick = draft_tick(course.session.clock.seconds);
         bool idle = chance(&random, 97);
         length += idle ? draft_write_event(&tick, input + length) : add_event(&course, input + length);

@@ -14,10 +14,11 @@
 enum {
     GENERATED_INPUTS = 600,
     LONG_INPUTS = 12,
-    /* Enough lines to fill the proved program's 65,536 bytes of waiting text. */
+    /* Seven chunks of the proved program with every answer printed, five bytes each: together more than the 65,536
+       bytes that a pipe takes in one write. */
     REFUSED_EVENTS = 14000,
-    /* The proved program reads its table, and then so many events at once. */
-    PROVED_CHUNK_BYTES = 1024 * EVENT_BYTES
+    /* The proved program reads its table, and then so many bytes at a time, and writes their answers at once. */
+    PROVED_CHUNK_BYTES = 2048 * EVENT_BYTES
 };
 
 static const uint64_t SEED = 3;
