@@ -10,10 +10,9 @@ ghost use Rattle.method.specs.told.Questions.{limits, place};
 ghost use Rattle.method.specs.told.Report.{line-report, report};
 ghost use Rattle.method.specs.computed.Rooms.{Room};
 ghost use Rattle.corridor.specs.View.{view, Valid};
-ghost use Rattle.corridor.specs.Asked.{sought};
+ghost use Rattle.questions.specs.Asked.{sought};
 ghost use Rattle.memory.specs.Memory.{session-in};
 ghost use Rattle.asking.specs.Told.{told-into, place-number, report-into};
-use corridor::questions::Sought;
 use method::EventReason;
 use method::Line;
 use method::PlaceAnswer;
@@ -22,6 +21,7 @@ use method::Row;
 use numbers::Seconds;
 use numbers::Steps;
 use packed::reading;
+use questions::Sought;
 
 // The line that has the id.
 fn found(session: &[[u64; 21]; 33], id: u32) -> Sought

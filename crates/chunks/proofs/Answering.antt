@@ -10,12 +10,12 @@ use Rattle.method.specs.told.Rows.{closing-row}
 use Rattle.rows.specs.Buffer.{written}
 use Rattle.rows.proofs.Buffer.{numbers-long}
 use Rattle.corridor.specs.declared.Session.{Session}
-use Rattle.corridor.specs.declared.Fed.{Fed}
+use Rattle.feeding.specs.declared.Fed.{Fed}
 use Rattle.corridor.specs.View.{view, Valid}
-use Rattle.corridor.specs.Closing.{closing-numbers, closed, closed-into}
-use Rattle.corridor.specs.Feeding.{room, fed}
+use Rattle.closing.specs.Closing.{closing-numbers, closed, closed-into}
+use Rattle.feeding.specs.Feeding.{room, fed}
 use Rattle.corridor.proofs.Views.{view-length}
-use Rattle.corridor.proofs.Chunks.{fed-is, told-fits}
+use Rattle.feeding.proofs.Chunks.{fed-is, told-fits}
 use Rattle.chunks.specs.declared.Told.{Told}
 use Rattle.chunks.specs.Answered.{number-in, answered}
 

@@ -3,8 +3,8 @@ use mathlib.Core.List.{List}
 use Prim.Native.Nat.{ℕ}
 use lib.ListN.{length}
 use Rattle.corridor.specs.declared.Session.{Session}
-use Rattle.corridor.specs.declared.RowsAnswer.{RowsAnswer}
-use Rattle.corridor.specs.Feeding.{told, left-by}
+use Rattle.rows.specs.declared.RowsAnswer.{RowsAnswer}
+use Rattle.feeding.specs.Feeding.{told, left-by}
 use Rattle.chunks.specs.declared.Told.{Told}
 
 -- how many numbers there are, or would have to fit

@@ -6,11 +6,11 @@ ghost use Prim.Native.Nat.{_≤_};
 ghost use lib.ListN.{length};
 ghost use Rattle.rows.specs.Buffer.{written};
 ghost use Rattle.corridor.specs.View.{Valid};
-ghost use Rattle.corridor.specs.Feeding.{room, told};
-ghost use Rattle.corridor.specs.Closing.{closing-numbers};
+ghost use Rattle.feeding.specs.Feeding.{room, told};
+ghost use Rattle.closing.specs.Closing.{closing-numbers};
 ghost use Rattle.chunks.specs.Answered.{number-in, answered};
-use corridor::RowsAnswer;
 use corridor::Session;
+use rows::RowsAnswer;
 
 // How many numbers there are, or would have to fit.
 pub fn number_in(answer: RowsAnswer) -> usize
@@ -34,7 +34,7 @@ pub fn answered(s: Session, chunk: &[u8], numbers: &mut [i64]) -> Told
     ensures { λ r. ⌜ r ≡ answered s (now (chunk .entry)) ⌝ }
     ensures { λ _. ⌜ now (numbers .exit) ≡ written (now (numbers .entry)) 0 (told s (now (chunk .entry))) ⌝ }
 {
-    let r = s.feed(chunk, numbers);
+    let r = feeding::feed(s, chunk, numbers);
     let answer = r.answer;
     let count = number_in(answer);
     let session = r.session;
@@ -50,6 +50,6 @@ pub fn closed(s: Session, numbers: &mut [i64]) -> usize
     ensures { λ r. ⌜ r ≡ length (closing-numbers s) ⌝ }
     ensures { λ _. ⌜ now (numbers .exit) ≡ written (now (numbers .entry)) 0 (closing-numbers s) ⌝ }
 {
-    let answer = s.close(numbers);
+    let answer = closing::close(s, numbers);
     number_in(answer)
 }

@@ -116,16 +116,6 @@ module _ {t : Seconds} {s₀ : Session} {n : ℕ} {wait end : Seconds} {s : Sess
       })
 
 -- ---- the session that is served
-pub served-path : {shifts shifts′ : List ShiftLine} {made made′ : ℕ} {session session′ : Session} → shifts ≡ shifts′ → made ≡ made′ → session ≡ session′
-    → _≡_ {A = Served} (record { shifts = shifts; made = made; session = session }) (record { shifts = shifts′; made = made′; session = session′ })
-served-path a b c = λ i. record { shifts = a i; made = b i; session = c i }
-
--- where nothing is served it is the session as it stands
-pub idle : (s : Session) (t : Seconds) → Valid s → serve (s .left) t (view s) ≡ []
-    → _≡_ {A = Served} (record { shifts = replicate 16 no-shift; made = 0; session = s }) (served-as s (serve (s .left) t (view s)))
-unfolding after
-idle s t v e = rw e (served-path refl refl (sym (put-view v)))
-
 pub ranged-served : (s : Session) (t : Seconds) → Valid s → Ranged (put s (after (serve (s .left) t (view s)) (view s)))
 ranged-served s t v =
     let cs = serve (s .left) t (view s) in

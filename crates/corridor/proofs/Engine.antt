@@ -1,12 +1,10 @@
--- The engine answers as rule 2 says, event by event and by the buffer. Assumes nothing.
+-- The engine answers as rule 2 says, event by event. Assumes nothing.
 use mathlib.Core.Path.{_≡_, refl, sym, ap, _∙_}
 use mathlib.Core.List.{List, [], _∷_}
 use Prim.Native.Nat.{ℕ}
 use Rattle.numbers.proofs.Arrays.{padded-take}
 use Rattle.method.specs.words.Types.{State}
 use Rattle.method.specs.words.Sessions.{Answer, accepted, refused}
-use Rattle.method.specs.told.Rows.{rows-of-all, numbers-of}
-use Rattle.method.specs.told.Program.{events-of}
 use Rattle.method.specs.computed.Event.{read, next}
 use Rattle.method.specs.computed.Search.{answer, run, finally}
 use Rattle.method.proofs.TableAnswered.{answered-table}
@@ -14,10 +12,10 @@ use Rattle.method.proofs.OneSession.{run-in-words}
 use Rattle.corridor.specs.declared.Session.{Session}
 use Rattle.corridor.specs.View.{view, put, no-session, opened-session, Valid}
 use Rattle.corridor.specs.Reply.{no-shift, reply-of}
-use Rattle.corridor.specs.Engine.{reply-to, answer-in, one-by-one, left-after, OpensAs, ValidProper, EngineRuns, EngineIsRight, FeedingIsTheSame}
+use Rattle.corridor.specs.Engine.{reply-to, answer-in, one-by-one, left-after, OpensAs, ValidProper, EngineRuns, EngineIsRight}
 use Rattle.corridor.proofs.Views.{view-put, put-put, put-view}
 use Rattle.corridor.proofs.Theorems.{valid-event}
-use Rattle.corridor.proofs.Feeding.{finally-kept}
+use Rattle.corridor.proofs.Events.{finally-kept}
 
 -- ---- one reply
 module _ (s : Session) (b : List ℕ) where
@@ -82,8 +80,3 @@ engine-is-right s bs v =
       answers = rw (answers-are s bs, view-left s bs) (run-in-words (view s) (v .sound) (v .distinct) bs);
       valid = left-valid s bs v;
     }
-
-pub feeding-is-the-same : FeedingIsTheSame
-feeding-is-the-same s b v =
-    let engine = engine-runs s (events-of b) v in
-    (ap (λ (rs : List Answer). numbers-of (rows-of-all rs)) (engine .answers), engine .session)

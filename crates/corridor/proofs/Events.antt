@@ -12,7 +12,7 @@ use Rattle.method.specs.words.Sessions.{Answer}
 use Rattle.method.specs.computed.Shift.{with-lines, after}
 use Rattle.method.specs.computed.Event.{read, verdict, with-book, quoted-line, quoted, applied, next}
 use Rattle.method.specs.computed.Relation.{time}
-use Rattle.method.specs.computed.Search.{serve, answer}
+use Rattle.method.specs.computed.Search.{serve, answer, finally}
 use Rattle.method.specs.computed.Rooms.{PriceIn, EventIn}
 use Rattle.method.proofs.Demands.{by-cond}
 use Rattle.method.proofs.Events.{read-in}
@@ -105,10 +105,6 @@ pub changes-after : (cs : List ShiftLine) (s : State) (e : Event) (c : Change) �
 changes-after cs s e Change.Nothing said = said
 changes-after cs s e (Change.Quote p) (said, named) = (said, named-after (p .quote .id) cs s (p .place) named)
 
--- a session with one line set
-abbrev pub quoted-in : Session → ℕ → Line → Session
-quoted-in r p m = moved-on r (set (r .lines) p m) (r .clock)
-
 -- z is the session served, with what the event changes; with the event's time it is the reply's
 pub event-taken : (s : Session) (e : Event) (v : Taken) (r : Served) → Takes (view s) e v → r ≡ served-as s (serve (s .left) (v .time) (view s)) → (c : Change)
     → v .change ≡ c → (z : Session) → z ≡ moved-on (r .session) (lines-after (r .session) c) (r .session .clock) → handed r z (v .time) ≡ reply s e
@@ -139,3 +135,12 @@ applied-length (Quoted q) s = quoted-length (s .near) (s .left) q (s .lines)
 pub next-length : (s : State) (e : Event) (cs : List ShiftLine) → length (next s e (Answer.accepted cs) .lines) ≡ length (s .lines)
 unfolding next
 next-length s e cs = applied-length e (after cs s) ∙ after-length cs s
+
+kept : (s : State) (e : Event) (a : Answer) → length (next s e a .lines) ≡ length (s .lines)
+kept s e (Answer.accepted cs) = next-length s e cs
+kept s e (Answer.refused why) = unfold next in refl
+
+pub finally-kept : (s : State) (bs : List (List ℕ)) → length (finally s bs .lines) ≡ length (s .lines)
+unfolding finally
+finally-kept s [] = refl
+finally-kept s (b ∷ bs) = finally-kept (next s (read b) (answer s (read b))) bs ∙ kept s (read b) (answer s (read b))

@@ -8,11 +8,5 @@ pub mod Named
 pub mod Gathered
 pub mod Saying
 pub mod Events
-pub mod Quiet
-pub mod Asking
 pub mod Theorems
-pub mod Feeding
-pub mod Turns
-pub mod Chunks
 pub mod Engine
-pub mod Joined

@@ -1,4 +1,4 @@
--- A theorem for each statement of specs/Handed, but that of `feed`. Assumes nothing.
+-- A theorem for each statement of specs/Handed. Assumes nothing.
 use mathlib.Core.Path.{_≡_, refl, sym, ap, _∙_}
 use mathlib.Core.List.{List, [], _∷_}
 use Prim.Native.Nat.{ℕ}

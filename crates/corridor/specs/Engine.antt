@@ -8,8 +8,6 @@ use lib.ListN.{take}
 use Rattle.method.specs.words.Types.{State}
 use Rattle.method.specs.words.Tables.{opened, TableAnswered}
 use Rattle.method.specs.words.Sessions.{Answer, AnswersInWords}
-use Rattle.method.specs.told.Rows.{rows-of-all, numbers-of}
-use Rattle.method.specs.told.Program.{events-of}
 use Rattle.method.specs.computed.Table.{opening}
 use Rattle.method.specs.computed.Event.{read}
 use Rattle.method.specs.computed.Search.{answered, answer, run, finally}
@@ -18,7 +16,6 @@ use Rattle.corridor.specs.declared.Session.{Session}
 use Rattle.corridor.specs.declared.Reply.{Reply}
 use Rattle.corridor.specs.View.{view, put, opened-session, Valid}
 use Rattle.corridor.specs.Reply.{reply-of}
-use Rattle.corridor.specs.Feeding.{told, left-by}
 
 -- what `event` promises of a session and a byte string
 abbrev pub reply-to : Session → List ℕ → Reply
@@ -63,9 +60,3 @@ pub record RightFrom (s : Session) (bs : List (List ℕ)) : Type 0 where
 -- From any valid session, an accepted table's or a snapshot's, and for any byte strings. [engine-is-right]
 abbrev pub EngineIsRight : Type 0
 EngineIsRight = (s : Session) (bs : List (List ℕ)) → Valid s → RightFrom s bs
-
--- Handing a buffer to `event` piece by piece is feeding it: the same numbers, and the same session. [feeding-is-the-same]
-abbrev pub FeedingIsTheSame : Type 0
-FeedingIsTheSame =
-    (s : Session) (b : List ℕ) → Valid s
-    → (numbers-of (rows-of-all (one-by-one s (events-of b))) ≡ told s b) × (left-after s (events-of b) ≡ left-by s b)

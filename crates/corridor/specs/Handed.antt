@@ -1,5 +1,5 @@
 -- What is handed out: a valid session, but beside a refused table none; and what a refusal says. The name in brackets is the theorem, in
--- proofs/Theorems, that of `feed` in proofs/Chunks.
+-- proofs/Theorems.
 use mathlib.Core.Path.{_≡_}
 use mathlib.Core.List.{List, [], _∷_}
 use Prim.Native.Nat.{ℕ}
@@ -14,18 +14,17 @@ use Rattle.corridor.specs.Names.{TableAnswer, TableReason, EventReason}
 use Rattle.corridor.specs.declared.Session.{Session}
 use Rattle.corridor.specs.declared.Opened.{Opened}
 use Rattle.corridor.specs.View.{view, opened-session, Valid}
-use Rattle.corridor.specs.Feeding.{fed}
 use Rattle.corridor.specs.Engine.{reply-to}
 
 -- what `open` promises of the bytes of a table
 abbrev pub opened-by : List ℕ → Opened
 opened-by b = opened-session (opening b)
 
--- The session of a table that `open` accepts is valid, so that every method takes it. [valid-open]
+-- The session of a table that `open` accepts is valid, so that every function of a session takes it. [valid-open]
 abbrev pub OpenValid : Type 0
 OpenValid = (b : List ℕ) → opened-by b .answer ≡ TableAnswer.Opened → Valid (opened-by b .session)
 
--- What stands beside a refusal is not: no method takes it. [refused-opens-none]
+-- What stands beside a refusal is not: no function takes it. [refused-opens-none]
 abbrev pub RefusedOpensNone : Type 0
 RefusedOpensNone =
     (b : List ℕ) (why : TableReason) (line : ℕ) → opened-by b .answer ≡ TableAnswer.Refused why line → Valid (opened-by b .session) → ⊥
@@ -33,10 +32,6 @@ RefusedOpensNone =
 -- From a valid session `event` hands back a valid one, whatever the bytes are, and where they are refused too. [valid-event]
 abbrev pub EventValid : Type 0
 EventValid = (s : Session) (b : List ℕ) → Valid s → Valid (reply-to s b .session)
-
--- So does `feed`, whatever buffer is lent, and where its room is too little too. [valid-feed]
-abbrev pub FeedValid : Type 0
-FeedValid = (s : Session) (size : ℕ) (b : List ℕ) → Valid s → Valid (fed s size b .session)
 
 -- A table that the method refuses is answered with the refusal's number and the line at fault. [open-says]
 abbrev pub OpenSays : Type 0

@@ -1,5 +1,4 @@
 -- The data of `numbers` and `method` that this crate names.
-pub use Rattle.numbers.specs.declared.Steps.{Steps}
 pub use Rattle.numbers.specs.declared.Millionths.{Millionths}
 pub use Rattle.numbers.specs.declared.Seconds.{Seconds}
 pub use Rattle.method.specs.declared.Side.{Side}
@@ -19,6 +18,3 @@ pub use Rattle.method.specs.declared.TableAnswer.{TableAnswer}
 pub use Rattle.method.specs.declared.TableReason.{TableReason}
 pub use Rattle.method.specs.declared.EventAnswer.{EventAnswer}
 pub use Rattle.method.specs.declared.EventReason.{EventReason}
-pub use Rattle.method.specs.declared.LimitsAnswer.{LimitsAnswer}
-pub use Rattle.method.specs.declared.PlaceAnswer.{PlaceAnswer}
-pub use Rattle.method.specs.declared.ReportAnswer.{ReportAnswer}

@@ -45,7 +45,7 @@ pub record Ranged (s : Session) : Type 0 where
   pub few : s .count ≤ 32
   pub sane : Sane (view s)
 
--- What a method of a session asks, and every session has: the array's length, the ranges of its numbers, that holds stand exactly where
+-- What every function of a session asks, and every session has: the array's length, the ranges of its numbers, that holds stand exactly where
 -- there is pressure and none is left to serve up to the clock, and that no id stands twice.
 pub record Valid (s : Session) : Type 0 where
   pub full : length (s .lines) ≡ 32

@@ -5,7 +5,7 @@ ghost use lib.ListN.{length, take};
 ghost use Rattle.method.specs.computed.Opening.{ids};
 ghost use Rattle.method.specs.computed.Event.{read};
 ghost use Rattle.method.specs.computed.Search.{answer};
-ghost use Rattle.corridor.specs.View.{view, Ranged, Valid};
+ghost use Rattle.corridor.specs.View.{view, Valid};
 ghost use Rattle.corridor.specs.Applied.{applied-to, Applies};
 ghost use Rattle.corridor.specs.Reply.{reply-of};
 use crate::Reply;
@@ -17,8 +17,8 @@ use verdict::Verdict;
 
 impl Session {
     // The ids of the lines in their order, which is all that the screen asks of a session.
-    pub(crate) fn ids(self) -> [u32; 32]
-        requires { ⌜ Ranged self ⌝ }
+    pub fn ids(self) -> [u32; 32]
+        requires { ⌜ Valid self ⌝ }
         ensures { λ r. ⌜ (length r ≡ 32) × (take (self .count) r ≡ ids (view self .lines)) ⌝ }
     {
         let n = self.count;

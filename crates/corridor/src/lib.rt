@@ -11,10 +11,7 @@ use method::TableAnswer;
 use numbers::Millionths;
 use numbers::Seconds;
 
-pub mod closing;
 pub mod event;
-pub mod feed;
-pub mod questions;
 pub mod serving;
 
 // The table's lines stand in the first `count` places, in its order. `left` is how many shifts may still be made.
@@ -29,7 +26,7 @@ pub struct Session {
 }
 
 // The answer to a table, and beside it the session. A refused table opens none: what stands beside it has no lines and hold seconds 0, which
-// no session has, so that no method takes it.
+// no session has, so that no function takes it.
 pub struct Opened {
     pub answer: TableAnswer,
     pub session: Session,
@@ -47,18 +44,6 @@ pub struct Reply {
     pub answer: EventAnswer,
     pub shifts: [ShiftLine; 16],
     pub made: usize,
-    pub session: Session,
-}
-
-// The answer that is written in rows: how many numbers there are, or how many the lent buffer would have to take, and nothing done.
-pub enum RowsAnswer {
-    Written(usize),
-    NoRoom(usize),
-}
-
-// The answer to a buffer of events, and beside it the session.
-pub struct Fed {
-    pub answer: RowsAnswer,
     pub session: Session,
 }
 

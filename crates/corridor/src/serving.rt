@@ -5,7 +5,6 @@ ghost use Prim.Native.Nat.{_<_};
 ghost use Rattle.method.specs.computed.Shift.{shifted};
 ghost use Rattle.method.specs.computed.Search.{serve};
 ghost use Rattle.corridor.specs.View.{view, put, Ranged, Valid};
-ghost use Rattle.corridor.specs.Quiet.{quiet-until};
 ghost use Rattle.corridor.specs.Reply.{served-as};
 use crate::Served;
 use crate::Session;
@@ -32,7 +31,7 @@ impl Session {
     }
 
     // Every hold that is due at or before t is served. A shift ends holds and starts others, so the search starts anew after each.
-    pub(crate) fn served(mut self, t: Seconds) -> Served
+    pub fn served(mut self, t: Seconds) -> Served
         requires { ⌜ Valid self ⌝ }
         ensures { λ r. ⌜ r ≡ served-as self (serve (self .left) t (view self)) ⌝ }
     {
@@ -73,21 +72,5 @@ impl Session {
             made: made,
             session: self,
         }
-    }
-
-    // The second of the hold that goes first; where none stands, one that no event reaches.
-    pub(crate) fn quiet(self) -> Seconds
-        requires { ⌜ Ranged self ⌝ }
-        ensures { λ r. ⌜ r ≡ quiet-until (view self) ⌝ }
-    {
-        let n = self.count;
-        let wait = self.hold;
-        let mut quiet = Seconds(4294967295);
-        for i in 0..n {
-            let l = self.lines[i];
-            let h = l.holds;
-            quiet = due::until(quiet, wait, h);
-        }
-        quiet
     }
 }

@@ -41,7 +41,7 @@ fn told(words: &[u8], s: Session, id: u32)
     requires { ⌜ Valid s ⌝ }
 {
     saying::heading(words);
-    answers::report(s.report(id));
+    answers::report(questions::report(s, id));
 }
 
 fn opening(s: Session)
@@ -85,14 +85,17 @@ fn questions(s: Session)
     saying::heading(
         b"Questions of the sample: both limits count as inside, and an unknown id is 13",
     );
-    answers::limits(s.limits(7));
-    answers::place(b"949", s.place(7, Steps(949)));
-    answers::place(b"950", s.place(7, Steps(950)));
-    answers::place(b"1050", s.place(7, Steps(1050)));
-    answers::place(b"1051", s.place(7, Steps(1051)));
-    answers::limits(s.limits(11));
-    answers::place(b"1000 of an unknown id", s.place(11, Steps(1000)));
-    answers::report(s.report(11));
+    answers::limits(questions::limits(s, 7));
+    answers::place(b"949", questions::place(s, 7, Steps(949)));
+    answers::place(b"950", questions::place(s, 7, Steps(950)));
+    answers::place(b"1050", questions::place(s, 7, Steps(1050)));
+    answers::place(b"1051", questions::place(s, 7, Steps(1051)));
+    answers::limits(questions::limits(s, 11));
+    answers::place(
+        b"1000 of an unknown id",
+        questions::place(s, 11, Steps(1000)),
+    );
+    answers::report(questions::report(s, 11));
 }
 
 // The session after the quotes.

@@ -15,10 +15,9 @@ use Rattle.corridor.specs.declared.Served.{Served}
 use Rattle.corridor.specs.View.{view, Valid}
 use Rattle.corridor.specs.Reply.{no-shift, served-as}
 use Rattle.corridor.specs.Engine.{reply-to}
-use Rattle.corridor.specs.Quiet.{quiet-until}
-use Rattle.corridor.proofs.Quiet.{quiet-first, quiet-serves}
+use Rattle.feeding.specs.Quiet.{quiet-until}
+use Rattle.feeding.proofs.Quiet.{quiet-first, quiet-serves, idle}
 use Rattle.corridor.proofs.Views.{view-length}
-use Rattle.corridor.proofs.DueServed.{idle}
 use Rattle.corridor.proofs.Named.{named-below}
 use Rattle.corridor.proofs.Saying.{Changes, Takes}
 use Rattle.corridor.specs.Applied.{moved-on, lines-after}

@@ -13,9 +13,9 @@ ghost use Rattle.pressure.specs.Asks.{Pressed};
 ghost use Rattle.verdict.specs.Screened.{screened};
 ghost use Rattle.rows.specs.Buffer.{written};
 ghost use Rattle.corridor.specs.View.{view, Valid, opened-session};
-ghost use Rattle.corridor.specs.Quiet.{quiet-until};
-ghost use Rattle.corridor.specs.Feeding.{fed, fed-into};
-ghost use Rattle.corridor.specs.Closing.{closed, closed-into};
+ghost use Rattle.feeding.specs.Quiet.{quiet-until};
+ghost use Rattle.feeding.specs.Feeding.{fed, fed-into};
+ghost use Rattle.closing.specs.Closing.{closed, closed-into};
 ghost use Rattle.chunks.specs.Answered.{number-in};
 ghost use Rattle.memory.specs.Memory.{session-in, with-line};
 ghost use Rattle.hosting.specs.Told.{line-said, reply-in, shift-rows, Leaves};
@@ -185,7 +185,7 @@ pub fn feed(session: &mut [[u64; 21]; 33], events: &[u8], out: &mut [i64]) -> us
         ≡ fed (session-in (now (session .entry))) (length (now (out .entry))) (now (events .entry)) .session ⌝ }
 {
     let s = memory::taken(session);
-    let f = s.feed(events, out);
+    let f = feeding::feed(s, events, out);
     let next = f.session;
     memory::kept(session, next);
     let answer = f.answer;
@@ -199,6 +199,6 @@ pub fn close(session: &[[u64; 21]; 33], out: &mut [i64]) -> usize
     ensures { λ _. ⌜ now (out .exit) ≡ closed-into (session-in (now (session .entry))) (now (out .entry)) ⌝ }
 {
     let s = memory::taken(session);
-    let answer = s.close(out);
+    let answer = closing::close(s, out);
     chunks::number_in(answer)
 }

@@ -14,6 +14,12 @@ use method::ShiftLine;
 use method::Side;
 use method::TableReason;
 
+// The answer that is written in rows: how many numbers there are, or how many the lent buffer would have to take, and nothing done.
+pub enum RowsAnswer {
+    Written(usize),
+    NoRoom(usize),
+}
+
 fn wide(n: u32) -> i64
     ensures { λ r. ⌜ r ≡ pos n ⌝ }
 {

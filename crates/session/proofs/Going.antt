@@ -5,9 +5,9 @@ use Prim.Native.Nat.{ℕ, _%_}
 use lib.ListN.{length}
 use Rattle.corridor.specs.declared.Session.{Session}
 use Rattle.corridor.specs.View.{Valid}
-use Rattle.corridor.specs.Feeding.{left-by}
-use Rattle.corridor.specs.Chunks.{WholeButLast, left-in}
-use Rattle.corridor.proofs.Chunks.{valid-left}
+use Rattle.feeding.specs.Feeding.{left-by}
+use Rattle.feeding.specs.Chunks.{WholeButLast, left-in}
+use Rattle.feeding.proofs.Chunks.{valid-left}
 use Rattle.session.specs.Chunks.{Reached}
 
 abbrev AllWhole : List (List ℕ) → Type 0

@@ -22,13 +22,13 @@ use Rattle.method.specs.computed.Program.{session-rows, rows-after, program}
 use Rattle.rows.proofs.Buffer.{numbers-append, numbers-one}
 use Rattle.corridor.specs.declared.Session.{Session}
 use Rattle.corridor.specs.View.{view, put, no-session, opened-session, Valid}
-use Rattle.corridor.specs.Feeding.{told, left-by, answers-told}
-use Rattle.corridor.specs.Chunks.{all-bytes, WholeButLast, told-in, left-in}
+use Rattle.feeding.specs.Feeding.{told, left-by, answers-told}
+use Rattle.feeding.specs.Chunks.{all-bytes, WholeButLast, told-in, left-in}
 use Rattle.corridor.proofs.Views.{view-put}
 use Rattle.corridor.proofs.Theorems.{valid-open}
-use Rattle.corridor.proofs.Joined.{one-buffer}
+use Rattle.feeding.proofs.Joined.{one-buffer}
 use Rattle.session.specs.Reading.{table-end}
-use Rattle.corridor.specs.Closing.{closing-numbers}
+use Rattle.closing.specs.Closing.{closing-numbers}
 use Rattle.session.proofs.HeaderAlone.{same-answer, is-refused}
 
 -- ---- what is printed, in numbers

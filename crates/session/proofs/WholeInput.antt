@@ -22,9 +22,9 @@ use Rattle.text.specs.Line.{all-text}
 use Rattle.text.proofs.Rows.{all-are}
 use Rattle.corridor.specs.declared.Session.{Session}
 use Rattle.corridor.specs.View.{view, opened-session}
-use Rattle.corridor.specs.Feeding.{told, left-by}
-use Rattle.corridor.specs.Chunks.{all-bytes, told-in, left-in}
-use Rattle.corridor.specs.Closing.{closing-numbers}
+use Rattle.feeding.specs.Feeding.{told, left-by}
+use Rattle.feeding.specs.Chunks.{all-bytes, told-in, left-in}
+use Rattle.closing.specs.Closing.{closing-numbers}
 use Rattle.session.specs.Reading.{table-end}
 use Rattle.session.specs.Printing.{texts, texts-after, WholeInput}
 use Rattle.session.proofs.InNumbers.{numbers-in, whole-in-numbers}

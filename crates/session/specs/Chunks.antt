@@ -3,7 +3,7 @@ use mathlib.Core.Path.{_≡_}
 use mathlib.Core.List.{List}
 use Prim.Native.Nat.{ℕ}
 use Rattle.corridor.specs.declared.Session.{Session}
-use Rattle.corridor.specs.Chunks.{WholeButLast, left-in}
+use Rattle.feeding.specs.Chunks.{WholeButLast, left-in}
 
 -- the session that some chunks leave, of which only the last may end in a cut event
 pub record Reached (first s : Session) : Type 0 where

@@ -22,8 +22,8 @@ use Rattle.method.specs.computed.Table.{opening}
 use Rattle.method.specs.computed.Search.{run}
 use Rattle.corridor.specs.declared.Session.{Session}
 use Rattle.corridor.specs.View.{view, opened-session}
-use Rattle.corridor.specs.Feeding.{left-by}
-use Rattle.corridor.specs.Chunks.{all-bytes, WholeButLast}
+use Rattle.feeding.specs.Feeding.{left-by}
+use Rattle.feeding.specs.Chunks.{all-bytes, WholeButLast}
 use Rattle.session.specs.Reading.{table-end}
 
 -- ---- what the functions of `answers` make

@@ -6,7 +6,7 @@ ghost use lib.ListN.{length};
 ghost use Rattle.method.specs.declared.Row.the-variants as RowOf;
 ghost use Rattle.method.specs.told.Text.{line-text};
 ghost use Rattle.corridor.specs.View.{Valid};
-ghost use Rattle.corridor.specs.Feeding.{room, left-by};
+ghost use Rattle.feeding.specs.Feeding.{room, left-by};
 ghost use Rattle.session.specs.Printing.{told-text, closing-text, Begins};
 use corridor::Session;
 use method::Row;

@@ -13,15 +13,15 @@ use Rattle.method.specs.told.Program.{events-of}
 use Rattle.method.specs.computed.Search.{run, finally}
 use Rattle.method.proofs.Ticks.{alike-is-same}
 use Rattle.corridor.specs.declared.Session.{Session}
-use Rattle.corridor.specs.declared.Fed.{Fed}
+use Rattle.feeding.specs.declared.Fed.{Fed}
 use Rattle.corridor.specs.View.{view, put, Valid}
-use Rattle.corridor.specs.Feeding.{told, left-by}
-use Rattle.corridor.specs.Chunks.{all-bytes}
+use Rattle.feeding.specs.Feeding.{told, left-by}
+use Rattle.feeding.specs.Chunks.{all-bytes}
 use Rattle.corridor.specs.Engine.{one-by-one, left-after}
 use Rattle.corridor.proofs.Engine.{valid-proper, engine-runs, engine-is-right}
 use Rattle.corridor.proofs.Views.{view-put}
-use Rattle.corridor.proofs.Chunks.{fed-is, fed-into-is}
-use Rattle.corridor.proofs.Joined.{one-buffer}
+use Rattle.feeding.proofs.Chunks.{fed-is, fed-into-is}
+use Rattle.feeding.proofs.Joined.{one-buffer}
 use Rattle.sites.specs.Sites.{EventsAlike, only-shifts, FedWith, ToldBy, BuffersAlike, ChunksAsHanded, ChunksAlike}
 use Rattle.sites.proofs.Rows.{only-shifts-are-lines}
 

@@ -14,11 +14,11 @@ use Rattle.method.specs.laws.Ticks.{Alike}
 use Rattle.method.specs.told.Rows.{rows-of-all, numbers-of}
 use Rattle.method.specs.told.Program.{events-of}
 use Rattle.corridor.specs.declared.Session.{Session}
-use Rattle.corridor.specs.declared.RowsAnswer.{RowsAnswer}
-use Rattle.corridor.specs.declared.Fed.{Fed}
+use Rattle.rows.specs.declared.RowsAnswer.{RowsAnswer}
+use Rattle.feeding.specs.declared.Fed.{Fed}
 use Rattle.corridor.specs.View.{view, Valid}
-use Rattle.corridor.specs.Feeding.{room, fed, fed-into}
-use Rattle.corridor.specs.Chunks.{all-bytes, WholeButLast, told-in, left-in}
+use Rattle.feeding.specs.Feeding.{room, fed, fed-into}
+use Rattle.feeding.specs.Chunks.{all-bytes, WholeButLast, told-in, left-in}
 use Rattle.corridor.specs.Engine.{one-by-one, left-after}
 
 -- ---- handed to `event`, one after another

@@ -24,7 +24,7 @@ use Rattle.corridor.specs.View.{view}
 use Rattle.corridor.specs.Reply.{no-shift, reply-of}
 use Rattle.corridor.specs.Engine.{reply-to}
 use Rattle.events.proofs.Cutting.{Cut, fewer}
-use Rattle.corridor.proofs.Feeding.{rows-count, reply-rows, Ahead, ahead-long, ahead-turn}
+use Rattle.feeding.proofs.Feeding.{rows-count, reply-rows, Ahead, ahead-long, ahead-turn}
 use Rattle.stepwise.specs.Told.{told-of}
 
 -- ---- the rows of an answer

@@ -15,10 +15,10 @@ use Rattle.method.specs.told.Program.{events-of}
 use Rattle.method.specs.computed.Table.{opening}
 use Rattle.rows.specs.Buffer.{written}
 use Rattle.corridor.specs.declared.Session.{Session}
-use Rattle.corridor.specs.declared.RowsAnswer.{RowsAnswer}
-use Rattle.corridor.specs.declared.Fed.{Fed}
+use Rattle.rows.specs.declared.RowsAnswer.{RowsAnswer}
+use Rattle.feeding.specs.declared.Fed.{Fed}
 use Rattle.corridor.specs.View.{view, opened-session}
-use Rattle.corridor.specs.Feeding.{room, fed, fed-into}
+use Rattle.feeding.specs.Feeding.{room, fed, fed-into}
 use Rattle.corridor.specs.Engine.{one-by-one}
 
 -- r is handed back and `now` stands in the buffer, after the answers rs to the byte strings bs, from the opening state o

@@ -1,19 +1,19 @@
 // A buffer of events handed to a session's `event` piece by piece: the way of a host that gets its events one at a time. Its promise is
-// that of `Session::feed`, word for word, so that the two are one.
+// that of `feeding::feed`, word for word, so that the two are one.
 
 ghost use mathlib.Core.Path.{_≡_};
 ghost use Prim.Native.Nat.{_+_, _≤_};
 ghost use lib.ListN.{length};
 ghost use Rattle.rows.specs.Buffer.{written};
 ghost use Rattle.corridor.specs.View.{Valid};
-ghost use Rattle.corridor.specs.Feeding.{fed, fed-into};
+ghost use Rattle.feeding.specs.Feeding.{fed, fed-into};
 ghost use Rattle.stepwise.specs.Told.{told-of};
-use corridor::Fed;
-use corridor::RowsAnswer;
 use corridor::Session;
+use feeding::Fed;
 use method::EventAnswer;
 use method::Row;
 use method::ShiftLine;
+use rows::RowsAnswer;
 
 // The rows of one answer, from `at` on; the result is the place after them.
 fn told(

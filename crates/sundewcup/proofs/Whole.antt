@@ -23,13 +23,13 @@ use Rattle.rows.specs.Buffer.{written}
 use Rattle.rows.proofs.Buffer.{written-long, written-on, written-rest, row-long, numbers-append, numbers-one}
 use Rattle.corridor.specs.declared.Session.{Session}
 use Rattle.corridor.specs.declared.Opened.{Opened}
-use Rattle.corridor.specs.declared.RowsAnswer.{RowsAnswer}
+use Rattle.rows.specs.declared.RowsAnswer.{RowsAnswer}
 use Rattle.corridor.specs.View.{view, no-session, opened-session, Valid}
-use Rattle.corridor.specs.Feeding.{answers-told, told, left-by}
-use Rattle.corridor.specs.Closing.{closing-numbers}
+use Rattle.feeding.specs.Feeding.{answers-told, told, left-by}
+use Rattle.closing.specs.Closing.{closing-numbers}
 use Rattle.corridor.proofs.Views.{view-put}
 use Rattle.corridor.proofs.Theorems.{valid-opened}
-use Rattle.corridor.proofs.Chunks.{told-fits, valid-left}
+use Rattle.feeding.proofs.Chunks.{told-fits, valid-left}
 use Rattle.chunks.specs.declared.Told.{Told}
 use Rattle.chunks.specs.Answered.{answered}
 use Rattle.chunks.proofs.Answering.{closing-few}

@@ -10,7 +10,7 @@ use Rattle.method.specs.told.Program.{events-of}
 use Rattle.method.specs.computed.Table.{opening}
 use Rattle.method.specs.computed.Program.{rows-after}
 use Rattle.rows.specs.Buffer.{written, room as rows-room}
-use Rattle.corridor.specs.declared.RowsAnswer.{RowsAnswer}
+use Rattle.rows.specs.declared.RowsAnswer.{RowsAnswer}
 
 -- the room for the rows of a whole session: 16 shifts and 32 contracts at most
 abbrev pub room : ℕ → ℕ

@@ -4,9 +4,9 @@ ghost use mathlib.Core.Path.{_≡_};
 ghost use lib.ListN.{length};
 ghost use Rattle.chunks.specs.Answered.{number-in};
 ghost use Rattle.sundewcup.specs.Running.{ran, ran-into};
-use corridor::RowsAnswer;
 use method::Row;
 use method::TableAnswer;
+use rows::RowsAnswer;
 
 // The rows of the whole: the shifts and the refused events in turn, and a closing row for each contract; or the one row of a refused
 // table. The room is worked out first: where it is not there, nothing is done.

@@ -9,11 +9,11 @@ use mathlib.Core.Path.{_≡_, ap, sym, _∙_}
 use Prim.Native.Nat.{_-_}
 use native.Mathlib.Omega.{arith}
 use denote.Ref.{now}
-use Rattle.corridor.proofs.Named.{Walk, walk-start, walk-met, walk-turn, walk-all}
-use Rattle.corridor.specs.declared.questions.Sought.{Sought}
+use Rattle.questions.proofs.Walking.{Walk, walk-start, walk-met, walk-turn, walk-all}
+use Rattle.questions.specs.declared.Sought.{Sought}
 use Rattle.memory.specs.Memory.{session-in}
 use Rattle.memory.proofs.Places.{count-is, line-at}
-use Rattle.corridor.proofs.Asking.{sought-met, sought-unmet}
+use Rattle.questions.proofs.Asking.{sought-met, sought-unmet}
 use Rattle.asking.proofs.found.Statement.{statement}
 use Rattle.asking.proofs.found.Tie as tie
 

@@ -4,9 +4,9 @@ use mathlib.Core.Path.{sym, _∙_}
 use denote.Ref.{now}
 use Rattle.method.specs.told.Questions.{limits}
 use Rattle.corridor.specs.View.{view}
-use Rattle.corridor.specs.declared.questions.Sought.{Sought}
+use Rattle.questions.specs.declared.Sought.{Sought}
 use Rattle.memory.specs.Memory.{session-in}
-use Rattle.corridor.proofs.Asking.{limits-by}
+use Rattle.questions.proofs.Asking.{limits-by}
 use Rattle.asking.proofs.Answers.{limits-none, limits-some}
 use Rattle.asking.proofs.limits.Statement.{statement}
 use Rattle.asking.proofs.limits.Tie as tie

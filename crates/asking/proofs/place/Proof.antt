@@ -7,10 +7,10 @@ use lib.IntN.{ℤ}
 use Rattle.method.specs.words.Types.{steps}
 use Rattle.method.specs.told.Questions.{placed}
 use Rattle.corridor.specs.View.{view}
-use Rattle.corridor.specs.declared.questions.Sought.{Sought}
+use Rattle.questions.specs.declared.Sought.{Sought}
 use Rattle.memory.specs.Memory.{session-in}
 use Rattle.asking.specs.Told.{place-number}
-use Rattle.corridor.proofs.Asking.{place-by}
+use Rattle.questions.proofs.Asking.{place-by}
 use Rattle.asking.proofs.place.Statement.{statement}
 use Rattle.asking.proofs.place.Tie as tie
 

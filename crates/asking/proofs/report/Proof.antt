@@ -5,11 +5,11 @@ use denote.Ref.{now}
 use Rattle.method.specs.told.Report.{report}
 use Rattle.method.specs.computed.Rooms.{Room}
 use Rattle.corridor.specs.View.{view}
-use Rattle.corridor.specs.declared.questions.Sought.{Sought}
+use Rattle.questions.specs.declared.Sought.{Sought}
 use Rattle.reporting.specs.Told.{report-rows}
-use Rattle.corridor.specs.Asked.{sought}
+use Rattle.questions.specs.Asked.{sought}
 use Rattle.memory.specs.Memory.{session-in}
-use Rattle.corridor.proofs.Asking.{sought-every, report-by}
+use Rattle.questions.proofs.Asking.{sought-every, report-by}
 use Rattle.asking.proofs.Answers.{report-none, report-some}
 use Rattle.asking.proofs.report.Statement.{statement}
 use Rattle.asking.proofs.report.Tie as tie

@@ -2,7 +2,7 @@
 use borrow.Author.Needs.{needs}
 use mathlib.Core.Path.{_∙_}
 use denote.Ref.{now}
-use Rattle.corridor.proofs.Chunks.{fed-into-is}
+use Rattle.feeding.proofs.Chunks.{fed-into-is}
 use Rattle.chunks.proofs.Answering.{answered-is}
 use Rattle.chunks.proofs.answered.Statement.{statement}
 use Rattle.chunks.proofs.answered.Tie as tie

@@ -1,5 +1,5 @@
 -- `hosting::close` meets its contract. Assumes nothing.
-use Rattle.corridor.specs.Closing.{closed, closed-into}
+use Rattle.closing.specs.Closing.{closed, closed-into}
 use Rattle.hosting.specs.Names.{Session}
 use denote.Ref.{now}
 use lib.ListN.{length}

@@ -3,9 +3,9 @@ use denote.Ref.{now}
 use lib.ListN.{length}
 use borrow.Author.Needs.{needs}
 use mathlib.Core.Path.{ap, subst, sym, _∙_}
-use Rattle.corridor.specs.declared.Fed.{Fed}
+use Rattle.feeding.specs.declared.Fed.{Fed}
 use Rattle.corridor.specs.View.{Valid}
-use Rattle.corridor.specs.Feeding.{fed, fed-into}
+use Rattle.feeding.specs.Feeding.{fed, fed-into}
 use Rattle.hosting.specs.Names.{Session}
 use Rattle.chunks.specs.Answered.{number-in}
 use Rattle.hosting.proofs.feed.Statement.{statement}

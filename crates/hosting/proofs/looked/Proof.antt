@@ -16,7 +16,7 @@ use Rattle.corridor.specs.View.{view}
 use Rattle.corridor.proofs.Views.{ranged}
 use Rattle.due.specs.Quiet.{until}
 use Rattle.corridor.proofs.Due.{row-passes}
-use Rattle.corridor.proofs.Quiet.{Until, until-turn, until-end}
+use Rattle.feeding.proofs.Quiet.{Until, until-turn, until-end}
 use Rattle.corridor.proofs.Gathered.{Gathered, gathered-none, gathered-turn, gathered-all}
 use Rattle.hosting.specs.Names.{Holds}
 use Rattle.memory.specs.Memory.{session-in}

@@ -5,7 +5,7 @@ use native.Mathlib.Omega.{arith}
 use lib.ListN.{length}
 use denote.Ref.{now}
 use Rattle.events.proofs.Cutting.{Cut, cut-is}
-use Rattle.corridor.proofs.Feeding.{Ahead, ahead-start, ahead-long, all-fed, all-into, nothing-fed, nothing-into}
+use Rattle.feeding.proofs.Feeding.{Ahead, ahead-start, ahead-long, all-fed, all-into, nothing-fed, nothing-into}
 use Rattle.stepwise.proofs.Stepping.{step-fits, step-turn}
 use Rattle.stepwise.proofs.feed.Statement.{statement}
 use Rattle.stepwise.proofs.feed.Tie as tie

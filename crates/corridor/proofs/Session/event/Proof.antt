@@ -10,7 +10,6 @@ use Rattle.verdict.specs.declared.Taken.{Taken}
 use Rattle.corridor.specs.Names.{EventAnswer}
 use Rattle.corridor.specs.declared.Session.{Session}
 use Rattle.corridor.specs.View.{view}
-use Rattle.corridor.proofs.Views.{ranged}
 use Rattle.corridor.proofs.Saying.{Says, Takes, session-says}
 use Rattle.corridor.proofs.Events.{refused-is, applies, event-taken}
 use Rattle.corridor.proofs.Session.event.Statement.{statement}
@@ -31,7 +30,7 @@ read-requires : tie.Need-read-requires
 read-requires c κs = search needs
 
 ids-requires : tie.Need-ids-requires
-ids-requires c κs = ranged (c .before .before .before .before .pre)
+ids-requires c κs = c .before .before .before .before .pre
 
 array-share-prefix-ids : tie.Need-array-share-prefix-ids
 array-share-prefix-ids c = search needs

@@ -7,7 +7,7 @@ use Rattle.method.specs.told.Rows.{rows-of-all}
 use Rattle.method.specs.told.Program.{events-of}
 use Rattle.method.specs.computed.Search.{run}
 use Rattle.corridor.specs.View.{view}
-use Rattle.corridor.specs.Feeding.{told}
+use Rattle.feeding.specs.Feeding.{told}
 use Rattle.chunks.specs.declared.Told.{Told}
 use Rattle.chunks.proofs.Answering.{count-fits}
 use Rattle.session.proofs.Texts.{front, enough, counted, said}

@@ -5,7 +5,7 @@ use mathlib.Core.List.{map}
 use denote.Ref.{now}
 use Rattle.method.specs.told.Rows.{closing-row}
 use Rattle.corridor.specs.View.{view}
-use Rattle.corridor.specs.Closing.{closing-numbers}
+use Rattle.closing.specs.Closing.{closing-numbers}
 use Rattle.chunks.proofs.Answering.{closing-few}
 use Rattle.session.proofs.Texts.{front, enough, counted, said}
 use Rattle.session.proofs.answers.closing.Statement.{statement}

@@ -1,0 +1,4 @@
+pub mod Names
+pub mod Quiet
+pub mod Feeding
+pub mod Chunks
