@@ -10,6 +10,8 @@ ghost use Rattle.beside.specs.Without.{Without};
 use numbers::Millionths;
 use numbers::Seconds;
 
+const MOST_ROWS: usize = method::MOST_CONTRACTS as usize;
+
 // Whether an id stands at no place from `from` on.
 fn absent(ids: &[u32], from: usize, id: u32) -> bool
     requires { ⌜ from ≤ length (now ids) ⌝ }
@@ -52,20 +54,20 @@ pub fn in_range(
 ) -> bool
     ensures { λ r. ⌜ Decides r (Beside count clock end hold left near) ⌝ }
 {
-    if 32 < count {
+    if MOST_ROWS < count {
         return false;
     }
-    if !numbers::in_range(1, 3600, hold.0) {
+    if !numbers::in_range(1, method::LONGEST_HOLD, hold.0) {
         return false;
     }
-    if 172800 < end.0 {
+    if method::LONGEST_SESSION < end.0 {
         return false;
     }
     if end.0 < clock.0 {
         return false;
     }
-    if 16 < left {
+    if method::MOST_SHIFTS < left {
         return false;
     }
-    numbers::in_range(1, 500000, near.0)
+    numbers::in_range(1, method::LARGEST_NEAR_SHARE, near.0)
 }

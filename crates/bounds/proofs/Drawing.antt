@@ -10,23 +10,24 @@ use Rattle.numbers.specs.Ranges.{Within}
 use Rattle.numbers.proofs.Ranges.{fits, within-add, within-sub, within-mul, within-pos}
 use Rattle.numbers.proofs.Machine.{cast-back}
 use Rattle.method.specs.words.Bounds.{market-bound, factor, interest, bound}
+use Rattle.method.specs.computed.Rooms.{largest-reach, largest-factor, largest-market-bound, largest-bound}
 use Rattle.method.proofs.Rooms.{factor-in, interest-within}
 use Rattle.bounds.specs.Names.{Side, Up, Down, Terms, Market}
 use Rattle.bounds.specs.Rounding.{rounded}
 use Rattle.bounds.specs.Asks.{Drawn}
 
-pub sum-fits : {x y : ℤ} → Within 900_000_000 x → Within 900_000_000 y → SFits w64 (x +ℤ y)
+pub sum-fits : {x y : ℤ} → Within largest-reach x → Within largest-reach y → SFits w64 (x +ℤ y)
 sum-fits v w = fits (within-add v w) (lit< tt)
 
-pub difference-fits : {x y : ℤ} → Within 900_000_000 x → Within 900_000_000 y → SFits w64 (x -ℤ y)
+pub difference-fits : {x y : ℤ} → Within largest-reach x → Within largest-reach y → SFits w64 (x -ℤ y)
 difference-fits v w = fits (within-sub v w) (lit< tt)
 
 pub ruleset sums = (sum-fits, difference-fits)
 
-pub factor-fits : {f : ℕ} → f ≤ 1_650_000_000 → f < 2 ^ 63
+pub factor-fits : {f : ℕ} → f ≤ largest-factor → f < 2 ^ 63
 factor-fits h = omega arith
 
-pub product-fits : {f : ℕ} {z : ℤ} → f ≤ 1_650_000_000 → Within 1_800_000_000 z → SFits w64 (z *ℤ pos f)
+pub product-fits : {f : ℕ} {z : ℤ} → f ≤ largest-factor → Within largest-market-bound z → SFits w64 (z *ℤ pos f)
 product-fits h w = fits (within-mul w (within-pos h)) (lit< tt)
 
 pub ruleset products = (factor-fits, product-fits, cast-back)
@@ -38,13 +39,13 @@ interest-is Down f z = refl
 
 -- ---- what a bound's parts are asked
 module _ {t : Terms} {m : Market} (d : Drawn t m) where
-  pub drawn-factor : (side : Side) → factor side t ≤ 1_650_000_000
+  pub drawn-factor : (side : Side) → factor side t ≤ largest-factor
   drawn-factor side = factor-in side (d .factors)
 
-  pub drawn-bound : (side : Side) → Within 1_800_000_000 (market-bound side (m .centre) (m .half1))
+  pub drawn-bound : (side : Side) → Within largest-market-bound (market-bound side (m .centre) (m .half1))
   drawn-bound Up = within-add (d .centre) (d .half1)
   drawn-bound Down = within-sub (d .centre) (d .half1)
 
-  pub drawn-within : (side : Side) → Within 2_970_000_000 (bound side t m)
+  pub drawn-within : (side : Side) → Within largest-bound (bound side t m)
   unfolding bound
   drawn-within side = interest-within side (factor side t) (drawn-factor side) (drawn-bound side)

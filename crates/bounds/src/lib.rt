@@ -4,6 +4,7 @@ ghost use mathlib.Core.Path.{_≡_};
 ghost use Prim.Native.Nat.{_≤_};
 ghost use Rattle.numbers.specs.Ranges.{Within};
 ghost use Rattle.method.specs.words.Bounds.{market-bound, factor, interest, bound};
+ghost use Rattle.method.specs.computed.Rooms.{largest-reach, largest-factor, largest-market-bound};
 ghost use Rattle.bounds.specs.Asks.{Drawn};
 use method::Market;
 use method::Side;
@@ -16,7 +17,7 @@ pub mod rounding;
 
 // Centre plus or minus a level's half-width.
 pub fn market_bound(side: Side, centre: Steps, half: Steps) -> Steps
-    requires { ⌜ Within 900_000_000 (centre .0) × Within 900_000_000 (half .0) ⌝ }
+    requires { ⌜ Within largest-reach (centre .0) × Within largest-reach (half .0) ⌝ }
     ensures { λ r. ⌜ r .0 ≡ market-bound side centre half ⌝ }
 {
     match side {
@@ -48,7 +49,7 @@ fn factor(side: Side, t: Terms) -> Billionths
 
 // A market bound by its factor, rounded outward.
 fn interest(side: Side, f: Billionths, z: Steps) -> Steps
-    requires { ⌜ (f .0 ≤ 1_650_000_000) × Within 1_800_000_000 (z .0) ⌝ }
+    requires { ⌜ (f .0 ≤ largest-factor) × Within largest-market-bound (z .0) ⌝ }
     ensures { λ r. ⌜ r .0 ≡ interest side (f .0) (z .0) ⌝ }
 {
     let product = z.0 * (f.0 as i64);

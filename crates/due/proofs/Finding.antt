@@ -9,8 +9,9 @@ use Rattle.method.specs.declared.Hold.{Hold}
 use Rattle.method.specs.declared.Hold.the-variants.{Since}
 use Rattle.method.specs.declared.Found.{Found}
 use Rattle.method.specs.declared.Found.the-variants.{Nothing, At}
+use Rattle.method.specs.words.Ranges.{longest-session}
 
-pub since-in : {h : Hold} {start : Seconds} → h ≡ Since start → HoldIn h → start .0 ≤ 172_800
+pub since-in : {h : Hold} {start : Seconds} → h ≡ Since start → HoldIn h → start .0 ≤ longest-session
 unfolding HoldIn
 since-in e i = subst HoldIn e i
 

@@ -2,6 +2,7 @@
 
 ghost use mathlib.Core.Path.{_≡_};
 ghost use Prim.Native.Nat.{_≤_};
+ghost use Rattle.method.specs.words.Ranges.{longest-hold};
 ghost use Rattle.method.specs.computed.Search.{due-of, ahead, sooner, passed, in-time};
 ghost use Rattle.method.specs.computed.Rooms.{HoldIn, HoldsIn};
 ghost use Rattle.due.specs.Quiet.{nearer, until};
@@ -14,7 +15,7 @@ use numbers::Seconds;
 
 // When a hold falls due.
 fn due_of(side: Side, wait: Seconds, place: usize, h: Hold) -> Found
-    requires { ⌜ HoldIn h × (wait .0 ≤ 3_600) ⌝ }
+    requires { ⌜ HoldIn h × (wait .0 ≤ longest-hold) ⌝ }
     ensures { λ r. ⌜ r ≡ due-of side wait place h ⌝ }
 {
     match h {
@@ -70,7 +71,7 @@ fn sooner(best: Found, d: Found) -> Found
 
 // One more line passed.
 pub fn passed(wait: Seconds, place: usize, h: Holds, best: Found) -> Found
-    requires { ⌜ HoldsIn h × (wait .0 ≤ 3_600) ⌝ }
+    requires { ⌜ HoldsIn h × (wait .0 ≤ longest-hold) ⌝ }
     ensures { λ r. ⌜ r ≡ passed wait place h best ⌝ }
 {
     let up = h.up;
@@ -103,7 +104,7 @@ pub fn in_time(t: Seconds, end: Seconds, left: u32, d: Found) -> Found
 
 // The nearer of two seconds: the one before which nothing is due so far, and the one at which the hold falls due.
 fn nearer(quiet: Seconds, wait: Seconds, h: Hold) -> Seconds
-    requires { ⌜ HoldIn h × (wait .0 ≤ 3_600) ⌝ }
+    requires { ⌜ HoldIn h × (wait .0 ≤ longest-hold) ⌝ }
     ensures { λ r. ⌜ r ≡ nearer quiet wait h ⌝ }
 {
     match h {
@@ -120,7 +121,7 @@ fn nearer(quiet: Seconds, wait: Seconds, h: Hold) -> Seconds
 
 // The second before which nothing is due, once a line has these holds.
 pub fn until(quiet: Seconds, wait: Seconds, h: Holds) -> Seconds
-    requires { ⌜ HoldsIn h × (wait .0 ≤ 3_600) ⌝ }
+    requires { ⌜ HoldsIn h × (wait .0 ≤ longest-hold) ⌝ }
     ensures { λ r. ⌜ r ≡ until quiet wait h ⌝ }
 {
     let up = h.up;

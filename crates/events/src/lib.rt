@@ -44,7 +44,7 @@ fn price_good(present: bool, z: Steps) -> bool
     ensures { λ r. ⌜ r ≡ price-good present (z .0) ⌝ }
 {
     if present {
-        return numbers::between(Steps(-2000000000), Steps(2000000000), z);
+        return numbers::between(Steps(method::LOWEST_QUOTE), Steps(method::LARGEST_QUOTE), z);
     }
     zero(z)
 }

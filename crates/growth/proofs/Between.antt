@@ -13,6 +13,7 @@ use Rattle.numbers.specs.Ranges.{Within}
 use Rattle.numbers.proofs.Halves.{zarith, apart}
 use Rattle.numbers.proofs.Ranges.{fits, within-sub, within-mul, within-pos}
 use Rattle.numbers.proofs.Machine.{cast-back, to-u64, of-u64}
+use Rattle.method.specs.words.Ranges.{largest-rate, most-days}
 use Rattle.method.specs.words.Growth.{between-keys}
 use Rattle.method.proofs.Growth.{pos-minus, RateIn, between-keys-in}
 use Rattle.growth.specs.Names.{Key}
@@ -45,7 +46,7 @@ module _ {l r : Key} {days : ℕ} (q : Neighbours l r days) where
 
   pub product-fits : SFits w64 ((pos (r .rate .0) -ℤ pos (l .rate .0)) *ℤ pos part)
   product-fits =
-      fits (within-mul (within-sub (within-pos (q .high-rate)) (within-pos (q .low-rate))) (within-pos {k = 3_650} (omega (arith, q .days-small)))) (lit< tt)
+      fits (within-mul (within-sub (within-pos (q .high-rate)) (within-pos (q .low-rate))) (within-pos {k = most-days} (omega (arith, q .days-small)))) (lit< tt)
 
   -- the definition's sum, with the machine's difference of days
   pub sum-is : pos (l .rate .0) +ℤ floor ((pos (r .rate .0) -ℤ pos (l .rate .0)) *ℤ pos part) whole ≡ between-keys l r days
@@ -68,9 +69,9 @@ module _ {l r : Key} {days : ℕ} (q : Neighbours l r days) (f : ℤ) (g : SFits
   sum-in = rw sum-back (between-keys-in l r days (q .low-rate) (q .high-rate) (q .from) (q .to))
 
   pub sum-fits : SFits w64 read-back
-  sum-fits = fits {k = 1_000_000} (rate-within sum-in) (lit< tt)
+  sum-fits = fits {k = largest-rate} (rate-within sum-in) (lit< tt)
     where
-      rate-within : {z : ℤ} → RateIn z → Within 1_000_000 z
+      rate-within : {z : ℤ} → RateIn z → Within largest-rate z
       rate-within {z} s = record { above = omega (zarith, s .most, apart z); below = omega (zarith, s .least, apart z) }
 
   pub sum-cast : T (nonNeg (toZ w64 (ofZ w64 read-back))) × Fits w64 (natAbs (toZ w64 (ofZ w64 read-back)))

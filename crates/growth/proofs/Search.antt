@@ -10,7 +10,7 @@ use lib.Dec.{leb}
 use lib.IntN.{ℤ, pos}
 use lib.ListN.{length, getD, drop}
 use lib.Seq.{drop-cons, drop-length}
-use Rattle.method.specs.words.Ranges.{KeysIn}
+use Rattle.method.specs.words.Ranges.{largest-rate, most-days, KeysIn}
 use Rattle.method.specs.words.Growth.{between-keys, rate-from, rate-by-keys}
 use Rattle.growth.specs.Names.{Key}
 use Rattle.growth.specs.Found.{found-line}
@@ -124,7 +124,7 @@ between-rate (k ∷ keys) days n e h =
     rw (lt-leb days (k .days) (p .0)) (from-between k keys days n (p .0) (p .1) (omega arith))
 
 -- ---- every key is in its range
-pub key-at : (before : ℕ) (keys : List Key) (i : ℕ) → KeysIn before keys → i < length keys → (getD keys i no-key .rate .0 ≤ 1_000_000) × (getD keys i no-key .days ≤ 3_650)
+pub key-at : (before : ℕ) (keys : List Key) (i : ℕ) → KeysIn before keys → i < length keys → (getD keys i no-key .rate .0 ≤ largest-rate) × (getD keys i no-key .days ≤ most-days)
 unfolding KeysIn
 key-at before [] i r h = absurd (no-place h)
 key-at before (k ∷ keys) zero r h = (r .0 .rate, r .0 .days .most)

@@ -4,6 +4,7 @@ ghost use mathlib.Core.Path.{_≡_};
 ghost use Prim.Native.Nat.{ℕ, _+_, _≤_, _<_};
 ghost use lib.IntN.{pos};
 ghost use lib.ListN.{take};
+ghost use Rattle.method.specs.words.Ranges.{most-keys, largest-rate, most-days};
 ghost use Rattle.method.specs.words.Growth.{between-keys, rate-at, most-exponent, exponent, up-factor, down-factor, factors-of};
 ghost use Rattle.growth.specs.Asks.{Neighbours, Searched};
 ghost use Rattle.growth.specs.Found.{found-line};
@@ -26,7 +27,7 @@ fn between_keys(l: Key, r: Key, days: u32) -> Millionths
 
 // The line, from 0, of the first of n keys that is not before the days left, or n where all are.
 fn found_line(keys: [Key; 16], n: usize, days: u32) -> usize
-    requires { ⌜ n ≤ 16 ⌝ }
+    requires { ⌜ n ≤ most-keys ⌝ }
     ensures { λ r. ⌜ r ≡ found-line days (take n keys) ⌝ }
 {
     let mut i: usize = 0;
@@ -62,7 +63,7 @@ pub fn rate_at(keys: [Key; 16], n: usize, days: u32) -> Millionths
 }
 
 pub fn exponent(rate: Millionths, days: u32) -> Billionths
-    requires { ⌜ (rate .0 ≤ 1_000_000) × (days ≤ 3_650) ⌝ }
+    requires { ⌜ (rate .0 ≤ largest-rate) × (days ≤ most-days) ⌝ }
     ensures { λ r. ⌜ r .0 ≡ exponent (rate .0) days ⌝ }
 {
     Billionths((rate.0 as u64) * (days as u64) * 1000 / 365)

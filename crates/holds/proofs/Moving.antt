@@ -8,13 +8,14 @@ use mir.Val.{SFits}
 use Rattle.numbers.specs.Ranges.{Within}
 use Rattle.numbers.proofs.Ranges.{fits, within-more, within-add, within-sub}
 use Rattle.method.specs.words.Bounds.{bound}
+use Rattle.method.specs.computed.Rooms.{largest-half-move, reach, largest-bound}
 use Rattle.method.specs.computed.Shift.{moved}
 use Rattle.bounds.specs.Asks.{Drawn}
 use Rattle.bounds.proofs.Drawing.{drawn-within}
 use Rattle.holds.specs.Names.{Side, Up, Down, Terms, Market, Limits, Line}
 use Rattle.holds.specs.Asks.{Carried, Redrawable, Shiftable}
 
-module _ {by z : ℤ} (h : Within 50_000_000 by) (w : Within 850_000_000 z) where
+module _ {by z : ℤ} (h : Within largest-half-move by) (w : Within (reach 1) z) where
   pub sum-in-reach : SFits w64 (z +ℤ by)
   sum-in-reach = fits (within-add w h) (lit< tt)
 
@@ -39,7 +40,7 @@ module _ {k : Limits} {a b : ℤ} (q : Carried k a b) where
 pub ruleset carries = (rise-fits, fall-fits, raised-fits, lowered-fits)
 
 -- ---- what a limit goes with: bounds, and any number whose range is known
-pub bound-in-reach : (side : Side) {t : Terms} {m : Market} {z : ℤ} → z ≡ bound side t m → Drawn t m → Within 2_970_000_000 z
+pub bound-in-reach : (side : Side) {t : Terms} {m : Market} {z : ℤ} → z ≡ bound side t m → Drawn t m → Within largest-bound z
 bound-in-reach side e d = rw e (drawn-within d side)
 
 pub ruleset reaches = (bound-in-reach, within-more)

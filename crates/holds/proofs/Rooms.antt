@@ -1,7 +1,8 @@
 -- From a line's room to what the functions on a line ask. Assumes nothing.
-use Prim.Native.Nat.{ℕ, suc, _≤_}
+use Prim.Native.Nat.{ℕ, suc, _≤_, _<_}
 use native.Mathlib.Omega.{arith}
 use Rattle.numbers.proofs.Ranges.{within-more}
+use Rattle.method.specs.words.Ranges.{longest-hold, most-shifts, largest-near-share}
 use Rattle.method.specs.computed.Shift.{moved-line}
 use Rattle.method.specs.computed.Event.{with-book}
 use Rattle.method.specs.computed.Rooms.{PriceIn, HoldsIn, Room}
@@ -13,18 +14,18 @@ use Rattle.holds.specs.Asks.{Shiftable, Shifts}
 room-limits : {left : ℕ} {l : Line} → Room left l → LimitsWithin (l .limits)
 room-limits r = record { upper = upper-in r; lower = lower-in r }
 
-pub room-presses : (near : Millionths) {left : ℕ} {l : Line} → near .0 ≤ 500_000 → Room left l → Pressed near l
+pub room-presses : (near : Millionths) {left : ℕ} {l : Line} → near .0 ≤ largest-near-share → Room left l → Pressed near l
 room-presses near h r = record { share = h; limits = room-limits r; book = r .book }
 
 -- ---- what a shift asks, and what it asks of its parts
-pub room-shifts : (near : Millionths) {left : ℕ} {l : Line} → left ≤ 15 → near .0 ≤ 500_000 → Room (suc left) l → Shifts near left l
+pub room-shifts : (near : Millionths) {left : ℕ} {l : Line} → left < most-shifts → near .0 ≤ largest-near-share → Room (suc left) l → Shifts near left l
 room-shifts near few h r = record { room = r; few = few; share = h }
 
 module _ {near : Millionths} {left : ℕ} {l : Line} (q : Shifts near left l) where
   pub shifts-shiftable : Shiftable l
   shifts-shiftable =
       let m = q .room .market in
-      let few : left ≤ 15 = q .few in
+      let few : left < most-shifts = q .few in
       record {
         market =
             record {
@@ -42,9 +43,9 @@ module _ {near : Millionths} {left : ℕ} {l : Line} (q : Shifts near left l) wh
   shifts-pressed side = room-presses near (q .share) (room-moved side (q .few) (q .room))
 
 -- ---- what a quote and the search ask
-pub room-quotes : (near : Millionths) (bid ask : Price) {left : ℕ} {l : Line} → near .0 ≤ 500_000 → PriceIn bid → PriceIn ask → Room left l
+pub room-quotes : (near : Millionths) (bid ask : Price) {left : ℕ} {l : Line} → near .0 ≤ largest-near-share → PriceIn bid → PriceIn ask → Room left l
     → Pressed near (with-book l bid ask)
 room-quotes near bid ask h b a r = record { share = h; limits = room-limits r; book = record { bid = b; ask = a } }
 
-pub room-passes : {wait : ℕ} {left : ℕ} {l : Line} → wait ≤ 3_600 → Room left l → HoldsIn (l .holds) × (wait ≤ 3_600)
+pub room-passes : {wait : ℕ} {left : ℕ} {l : Line} → wait ≤ longest-hold → Room left l → HoldsIn (l .holds) × (wait ≤ longest-hold)
 room-passes h r = (r .holds, h)

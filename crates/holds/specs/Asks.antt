@@ -1,26 +1,27 @@
 -- What the functions of this crate ask, and their callers show.
-use Prim.Native.Nat.{ℕ, suc, _≤_}
+use Prim.Native.Nat.{ℕ, suc, _≤_, _<_}
 use lib.IntN.{ℤ, _+ℤ_, _-ℤ_}
 use Rattle.numbers.specs.Ranges.{Within}
 use Rattle.method.specs.words.Types.{steps}
-use Rattle.method.specs.computed.Rooms.{FactorsIn, Room}
+use Rattle.method.specs.words.Ranges.{most-shifts, largest-near-share}
+use Rattle.method.specs.computed.Rooms.{largest-half-move, reach, largest-bound, FactorsIn, Room}
 use Rattle.bounds.specs.Asks.{Drawn}
 use Rattle.pressure.specs.Asks.{LimitsWithin}
 use Rattle.holds.specs.Names.{Terms, Market, Millionths, Limits, Line}
 
 -- what a market asks that is moved
 pub record Movable (by : ℤ) (m : Market) : Type 0 where
-  pub small : Within 50_000_000 by
-  pub centre : Within 850_000_000 (m .centre .0)
-  pub half1 : Within 850_000_000 (m .half1 .0)
-  pub half2 : Within 850_000_000 (m .half2 .0)
-  pub half3 : Within 850_000_000 (m .half3 .0)
+  pub small : Within largest-half-move by
+  pub centre : Within (reach 1) (m .centre .0)
+  pub half1 : Within (reach 1) (m .half1 .0)
+  pub half2 : Within (reach 1) (m .half2 .0)
+  pub half3 : Within (reach 1) (m .half3 .0)
 
 -- what a limit asks that goes with its bound from a to b, and what becomes of the limits
 pub record Carried (k : Limits) (a b : ℤ) : Type 0 where
   pub limits : LimitsWithin k
-  pub from : Within 2_970_000_000 a
-  pub to : Within 2_970_000_000 b
+  pub from : Within largest-bound a
+  pub to : Within largest-bound b
 
 abbrev pub with-upper : Limits → ℤ → Limits
 with-upper k z = record { upper = steps z; lower = k .lower; frozen = k .frozen }
@@ -49,5 +50,5 @@ pub record Shiftable (l : Line) : Type 0 where
 -- What a shift asks that leaves `left`. It asks for the whole room: that limits stay in range is a matter of their bounds.
 pub record Shifts (near : Millionths) (left : ℕ) (l : Line) : Type 0 where
   pub room : Room (suc left) l
-  pub few : left ≤ 15
-  pub share : near .0 ≤ 500_000
+  pub few : left < most-shifts
+  pub share : near .0 ≤ largest-near-share

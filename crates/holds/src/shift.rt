@@ -4,6 +4,7 @@ ghost use mathlib.Core.Path.{_≡_};
 ghost use Rattle.numbers.specs.Ranges.{Within};
 ghost use Rattle.method.specs.computed.Shift.{toward, moved, redrawn, ended, moved-line, shift-line};
 ghost use Rattle.method.specs.computed.Event.{with-book, quoted-line};
+ghost use Rattle.method.specs.computed.Rooms.{largest-half-move, reach};
 ghost use Rattle.pressure.specs.Asks.{Pressed};
 ghost use Rattle.holds.specs.Asks.{Movable, Carried, Redrawable, Shiftable, Shifts, raised-by, lowered-by};
 use bounds::limits;
@@ -22,7 +23,7 @@ use numbers::Steps;
 
 // z moved by a half-move.
 fn toward(side: Side, by: Steps, z: Steps) -> Steps
-    requires { ⌜ Within 50_000_000 (by .0) × Within 850_000_000 (z .0) ⌝ }
+    requires { ⌜ Within largest-half-move (by .0) × Within (reach 1) (z .0) ⌝ }
     ensures { λ r. ⌜ r ≡ toward side by z ⌝ }
 {
     match side {

@@ -1,7 +1,7 @@
 -- What the steps of the opening numbers come to fits an `i64`, from the contract's ranges. Assumes nothing.
 use mathlib.Core.Path.{_≡_}
 use mathlib.Core.Bool.{true, false}
-use Prim.Native.Nat.{ℕ, _<_, _^_}
+use Prim.Native.Nat.{ℕ, _*_, _<_, _^_}
 use native.Mathlib.Omega.{arith}
 use lib.Dec.{lit<, lit≤}
 use lib.IntN.{ℤ, pos, natAbs, _+ℤ_, _-ℤ_, _*ℤ_}
@@ -15,9 +15,10 @@ use Rattle.numbers.proofs.Halves.{zarith, apart, abs-is, sub-is}
 use Rattle.numbers.proofs.Ranges.{fits, floor-within, within-add, within-sub, within-lit, within-mul, within-pos, within-more}
 use Rattle.numbers.proofs.Machine.{cast-back}
 use Rattle.method.specs.words.Types.{steps}
-use Rattle.method.specs.words.Ranges.{ContractIn}
+use Rattle.method.specs.words.Ranges.{whole, largest-price, ContractIn}
 use Rattle.method.specs.words.Bounds.{bound}
 use Rattle.method.specs.words.Opening.{normal-price, corridor-half, corridor}
+use Rattle.method.specs.computed.Rooms.{largest-bound}
 use Rattle.method.proofs.Opening.{normal-in}
 use Rattle.method.proofs.Rooms.{span-within}
 use Rattle.bounds.proofs.Drawing.{drawn-within}
@@ -25,7 +26,7 @@ use Rattle.line.specs.Names.{Up, Down, Millionths, Contract, Terms, Mark
 use Rattle.line.specs.Asks.{Spanned}
 
 -- ---- a size
-pub turned-fits : {z : ℤ} → Within 100_000_000 z → SFits w64 (pos 0 -ℤ z)
+pub turned-fits : {z : ℤ} → Within largest-price z → SFits w64 (pos 0 -ℤ z)
 turned-fits w = fits (within-sub (within-lit 0) w) (lit< tt)
 
 pub ruleset turns = (turned-fits)
@@ -47,7 +48,7 @@ module _ (c : Contract) (size : ℤ) (e : size ≡ pos (natAbs (c .spot .0))) wh
   normal-size t = rw (rw e at t) e
 
 -- ---- a half-width, from the normal price n
-module _ (c : Contract) (r : ContractIn c) (rate : ℕ) (s : Between 1 1_000_000 rate) (n : ℤ) (e : n ≡ normal-price c) where
+module _ (c : Contract) (r : ContractIn c) (rate : ℕ) (s : Between 1 whole rate) (n : ℤ) (e : n ≡ normal-price c) where
   abbrev read-back : ℤ
   read-back = toZ w64 (ofZ w64 n) *ℤ toZ w64 rate
 
@@ -60,24 +61,24 @@ module _ (c : Contract) (r : ContractIn c) (rate : ℕ) (s : Between 1 1_000_000
   pub width-fits : SFits w64 read-back
   width-fits = rw product-is (fits (within-mul (span-within (normal-in c r)) (within-pos (s .most))) (lit< tt))
 
-  pub width-is : ceiling (toZ w64 (ofZ w64 read-back)) 1_000_000 ≡ ceiling (normal-price c *ℤ pos rate) 1_000_000
+  pub width-is : ceiling (toZ w64 (ofZ w64 read-back)) whole ≡ ceiling (normal-price c *ℤ pos rate) whole
   width-is = rw (toZ-ofZ width-fits, product-is)
 
 -- ---- a half-move
-pub half-move-fits : {share : ℕ} {half : ℤ} → Between 1 1_000_000 share → Span (pos 1) (pos 100_000_000) half → SFits w64 (pos share *ℤ half)
+pub half-move-fits : {share : ℕ} {half : ℤ} → Between 1 whole share → Span (pos 1) (pos largest-price) half → SFits w64 (pos share *ℤ half)
 half-move-fits s r = fits (within-mul (within-pos (s .most)) (span-within r)) (lit< tt)
 
-pub share-fits : {share : ℕ} → Between 1 1_000_000 share → share < 2 ^ 63
+pub share-fits : {share : ℕ} → Between 1 whole share → share < 2 ^ 63
 share-fits s = omega (arith, s .most)
 
 pub ruleset moves = (half-move-fits, share-fits, cast-back)
 
 -- ---- a corridor, from the bounds u and l
 module _ (width : Millionths) (t : Terms) (m : Market) (s : Spanned width t m) (u l : ℤ) (eu : u ≡ bound Up t m) (el : l ≡ bound Down t m) where
-  upper-within : Within 2_970_000_000 u
+  upper-within : Within largest-bound u
   upper-within = rw eu (drawn-within (s .drawn) Up)
 
-  lower-within : Within 2_970_000_000 l
+  lower-within : Within largest-bound l
   lower-within = rw el (drawn-within (s .drawn) Down)
 
   abbrev apart-back : ℤ
@@ -98,19 +99,19 @@ module _ (width : Millionths) (t : Terms) (m : Market) (s : Spanned width t m) (
   pub share-times-fits : SFits w64 share-back
   share-times-fits = rw share-is (fits (within-mul (within-pos (s .share)) (within-sub upper-within lower-within)) (lit< tt))
 
-  pub half-is : floor (toZ w64 (ofZ w64 share-back)) 2_000_000 ≡ corridor-half width t m
+  pub half-is : floor (toZ w64 (ofZ w64 share-back)) (2 * whole) ≡ corridor-half width t m
   unfolding corridor-half
   half-is = rw (toZ-ofZ share-times-fits, share-is, eu, el)
 
-half-within : (width : Millionths) (t : Terms) (m : Market) → Spanned width t m → Within 2_970_000_000 (corridor-half width t m)
+half-within : (width : Millionths) (t : Terms) (m : Market) → Spanned width t m → Within largest-bound (corridor-half width t m)
 unfolding corridor-half
 half-within width t m s =
-    floor-within 2_970_000_000 2_000_000 (lit< tt)
+    floor-within largest-bound (2 * whole) (lit< tt)
     (within-more (within-mul (within-pos (s .share)) (within-sub (drawn-within (s .drawn) Up) (drawn-within (s .drawn) Down))) (lit≤ tt))
 
 -- ---- the limits, from half of the corridor
 module _ (width : Millionths) (t : Terms) (m : Market) (s : Spanned width t m) (half : ℤ) (e : half ≡ corridor-half width t m) where
-  half-in : Within 2_970_000_000 half
+  half-in : Within largest-bound half
   half-in = rw e (half-within width t m s)
 
   abbrev high-back : ℤ

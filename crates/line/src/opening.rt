@@ -4,7 +4,7 @@ ghost use mathlib.Core.Path.{_≡_};
 ghost use Prim.Native.Nat.{_≤_};
 ghost use lib.IntN.{pos, natAbs};
 ghost use Rattle.numbers.specs.Ranges.{Within, Between, Span};
-ghost use Rattle.method.specs.words.Ranges.{ContractIn};
+ghost use Rattle.method.specs.words.Ranges.{whole, largest-price, ContractIn};
 ghost use Rattle.method.specs.words.Growth.{most-exponent};
 ghost use Rattle.method.specs.words.Opening.{normal-price, half-width, market-of, half-move, terms-of, corridor-half, corridor, fresh-line};
 ghost use Rattle.method.specs.computed.Opening.{inside-bounds, opened-with};
@@ -28,8 +28,13 @@ use numbers::Billionths;
 use numbers::Millionths;
 use numbers::Steps;
 
+// As wide as a product of steps.
+const WHOLE: i64 = method::WHOLE as i64;
+
+const TWICE_WHOLE: i64 = 2 * WHOLE;
+
 fn magnitude(z: Steps) -> Steps
-    requires { ⌜ Within 100_000_000 (z .0) ⌝ }
+    requires { ⌜ Within largest-price (z .0) ⌝ }
     ensures { λ r. ⌜ r .0 ≡ pos (natAbs (z .0)) ⌝ }
 {
     if z.0 < 0 {
@@ -53,12 +58,12 @@ fn normal_price(c: Contract) -> Steps
 }
 
 fn half_width(c: Contract, rate: Millionths) -> Steps
-    requires { ⌜ ContractIn c × Between 1 1_000_000 (rate .0) ⌝ }
+    requires { ⌜ ContractIn c × Between 1 whole (rate .0) ⌝ }
     ensures { λ r. ⌜ r ≡ half-width c rate ⌝ }
 {
     let normal = normal_price(c);
     let factor = (rate.0 as u64) as i64;
-    rounding::rounded(Side::Up, normal.0 * factor, 1000000)
+    rounding::rounded(Side::Up, normal.0 * factor, WHOLE)
 }
 
 pub fn market(c: Contract) -> Market
@@ -78,16 +83,16 @@ pub fn market(c: Contract) -> Market
 }
 
 fn half_move(shift: Millionths, half1: Steps) -> Steps
-    requires { ⌜ Between 1 1_000_000 (shift .0) × Span (pos 1) (pos 100_000_000) (half1 .0) ⌝ }
+    requires { ⌜ Between 1 whole (shift .0) × Span (pos 1) (pos largest-price) (half1 .0) ⌝ }
     ensures { λ r. ⌜ r ≡ half-move shift half1 ⌝ }
 {
     let share = (shift.0 as u64) as i64;
-    rounding::rounded(Side::Down, share * half1.0, 2000000)
+    rounding::rounded(Side::Down, share * half1.0, TWICE_WHOLE)
 }
 
 // What stays for the session. The flags are rebuilt from their two bits.
 pub fn terms(shift: Millionths, y: Billionths, c: Contract) -> Terms
-    requires { ⌜ ContractIn c × (Between 1 1_000_000 (shift .0) × (y .0 ≤ most-exponent)) ⌝ }
+    requires { ⌜ ContractIn c × (Between 1 whole (shift .0) × (y .0 ≤ most-exponent)) ⌝ }
     ensures { λ r. ⌜ r ≡ terms-of shift (y .0) c ⌝ }
 {
     let rate1 = c.rate1;
@@ -107,7 +112,7 @@ fn corridor_half(width: Millionths, t: Terms, m: Market) -> Steps
     let upper = bounds::bound(Side::Up, t, m);
     let lower = bounds::bound(Side::Down, t, m);
     let share = (width.0 as u64) as i64;
-    rounding::rounded(Side::Down, share * (upper.0 - lower.0), 2000000)
+    rounding::rounded(Side::Down, share * (upper.0 - lower.0), TWICE_WHOLE)
 }
 
 // The limits P + half and P - half, before they are held against their bounds.

@@ -2,7 +2,7 @@
 use mathlib.Core.Path.{_≡_, refl, sym}
 use mathlib.Core.Bool.{Bool, true, false, cond}
 use mathlib.Core.Logic.{⊎-elim}
-use Prim.Native.Nat.{ℕ, _≤_}
+use Prim.Native.Nat.{ℕ, _*_, _≤_}
 use lib.Dec.{lit<}
 use lib.IntN.{ℤ, pos, negsuc, _+ℤ_, _-ℤ_, _*ℤ_}
 use lib.Signed.{ltZ, _≤ℤ_}
@@ -13,7 +13,7 @@ use Rattle.numbers.proofs.Linear.{≤ℤ-trans, le-or-lt, mul-mono, mul-grows, 
 use Rattle.numbers.proofs.Rounding.{floor-mono, ceiling-mono, floor-exact, ceiling-exact}
 use Rattle.numbers.proofs.Tests.{both, lt-true, lt-false, le-true}
 use Rattle.method.specs.words.Types.{Up, Down, Millionths, Terms, Market, Limits, steps}
-use Rattle.method.specs.words.Ranges.{permits-negative}
+use Rattle.method.specs.words.Ranges.{whole, permits-negative}
 use Rattle.method.specs.words.Bounds.{factor, interest, bound}
 use Rattle.method.specs.words.Opening.{corridor-half, corridor, floored}
 use Rattle.method.specs.computed.Opening.{inside-bounds}
@@ -86,8 +86,8 @@ module _ (t : Terms) (m : Market) (r : FactorsIn t) (h : pos 0 ≤ℤ (m .half1 
       go false e = under-above c (c -ℤ m .half1 .0) (t .factors .down .0) (lt-false c (pos 0) (sym e)) low (r .down .most)
 
 -- ---- and between the limits
-nonneg-half : (w : ℕ) (u l : ℤ) → l ≤ℤ u → pos 0 ≤ℤ floor (pos w *ℤ (u -ℤ l)) 2_000_000
-nonneg-half w u l h = floor-mono {a = pos 0} 2_000_000 (product (u -ℤ l) (omega (zarith, sub-is u l)))
+nonneg-half : (w : ℕ) (u l : ℤ) → l ≤ℤ u → pos 0 ≤ℤ floor (pos w *ℤ (u -ℤ l)) (2 * whole)
+nonneg-half w u l h = floor-mono {a = pos 0} (2 * whole) (product (u -ℤ l) (omega (zarith, sub-is u l)))
   where
     product : (z : ℤ) → pos 0 ≤ℤ z → pos 0 ≤ℤ (pos w *ℤ z)
     product (pos n) h = omega zarith

@@ -8,7 +8,7 @@ use lib.Dec.{eqb}
 use borrow.Author.Tests.{eqb-true, eqb-false, le-leb, lt-ltb, eq-eqb, ne-eqb}
 use Rattle.numbers.proofs.Tests.{both, both-true, never-both, le-true, true-le, range-in, span-in, within-in}
 use Rattle.method.specs.words.Types.{Header, Key, Contract, Terms, Market, Limits, Line}
-use Rattle.method.specs.words.Ranges.{permits-negative, HeaderIn, KeyIn, ContractIn, Every}
+use Rattle.method.specs.words.Ranges.{most-shifts, whole, largest-rate, most-days, permits-negative, HeaderIn, KeyIn, ContractIn, Every}
 use Rattle.method.specs.words.Tables.{Laid, InsideBounds}
 use Rattle.method.specs.told.Questions.{known}
 use Rattle.method.specs.computed.Opening.{rates-good, fields-good, inside-bounds}
@@ -38,7 +38,7 @@ header-test h r =
     (both-true
     (both-true
     (both-true (both-true (both-true (range-in (r .contracts)) (range-in (r .keys))) (range-in (r .end))) (range-in (r .hold)))
-    (le-leb (h .most) 16 (r .most))) (range-in (r .near))) (range-in (r .shift))
+    (le-leb (h .most) most-shifts (r .most))) (range-in (r .near))) (range-in (r .shift))
 
 pub laid-in : (h : Header) (size : ℕ) → laid-out h size ≡ true → Laid h size
 unfolding laid-out
@@ -53,7 +53,7 @@ laid-test h size r = both-true (both-true (eq-eqb _ _ (r .keys)) (eq-eqb _ _ (r 
 
 pub key-test : (before : ℕ) (k : Key) → KeyIn before k → key-good before k ≡ true
 unfolding key-good
-key-test before k r = both-true (both-true (range-in (r .days)) (lt-ltb before (k .days) (r .rising))) (le-leb (k .rate .0) 1_000_000 (r .rate))
+key-test before k r = both-true (both-true (range-in (r .days)) (lt-ltb before (k .days) (r .rising))) (le-leb (k .rate .0) largest-rate (r .rate))
 
 permitted-or : (p : Bool) {q : Bool} → (p ≡ false → q ≡ true) → (p || q) ≡ true
 permitted-or true f = refl
@@ -71,7 +71,7 @@ fields-test c r =
     (both-true
     (both-true
     (both-true (both-true (within-in (r .price)) (permitted-or (permits-negative (c .flags)) (λ n. true-le (r .positive n)))) (within-in (r .spot)))
-    (span-in (r .least))) rates) (le-leb (c .width .0) 1_000_000 (r .width))) (le-leb (c .days) 3_650 (r .days))) (lt-ltb (c .flags) 4 (r .flags))
+    (span-in (r .least))) rates) (le-leb (c .width .0) whole (r .width))) (le-leb (c .days) most-days (r .days))) (lt-ltb (c .flags) 4 (r .flags))
 
 pub inside-in : (t : Terms) (m : Market) (k : Limits) → inside-bounds t m k ≡ true → InsideBounds t m k
 unfolding inside-bounds

@@ -13,6 +13,7 @@ use Rattle.numbers.specs.Tests.{same}
 use Rattle.numbers.proofs.Tests.{both, in-span-true}
 use Rattle.method.specs.words.Types.{Side, Seconds, Millionths, Line, ShiftLine, State, EventReason, EventAnswer, seconds}
 use Rattle.method.specs.words.Wire.{word, signed, bit}
+use Rattle.method.specs.words.Ranges.{largest-quote}
 use Rattle.method.specs.told.Questions.{known}
 use Rattle.method.specs.computed.Types.{Event, Damaged, Tick, Quoted}
 use Rattle.method.specs.computed.Opening.{ids}
@@ -26,7 +27,7 @@ use Rattle.method.proofs.Demands.{met-by, by-demand, by-cond}
 -- ---- the prices that are read lie within 2,000,000,000
 price-in : (present : Bool) (z : ℤ) → price-good present z ≡ true → PriceIn (price-of present z)
 unfolding PriceIn
-price-in true z e = in-span-true 2_000_000_000 z e
+price-in true z e = in-span-true largest-quote z e
 price-in false z e = tt
 
 tick-in : (t : Seconds) (id : ℕ) (bid ask : ℤ) → EventIn (read-tick t id bid ask)

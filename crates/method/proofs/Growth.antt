@@ -15,8 +15,9 @@ use Rattle.numbers.proofs.Halves.{zarith, add-is, sub-is, mul-is, apart, abs-is
 use Rattle.numbers.proofs.Linear.{le-or-lt, mul-mono, mul-grows, mul-sinks}
 use Rattle.numbers.proofs.Rounding.{div-mono, floor-mono, floor-exact}
 use Rattle.method.specs.words.Types.{Key}
-use Rattle.method.specs.words.Ranges.{KeysIn}
+use Rattle.method.specs.words.Ranges.{largest-rate, KeysIn}
 use Rattle.method.specs.words.Growth.{between-keys, rate-from, rate-by-keys, rate-at, most-exponent, term, series, up-factor, down-factor, factors-of}
+use Rattle.method.specs.computed.Rooms.{largest-factor, least-factor}
 use Rattle.method.proofs.Demands.{by-cond}
 
 -- ---- the factor rises with the exponent, so that its values at 0 and at the cap bound it
@@ -34,28 +35,28 @@ at-zero : 1_000_000_000 ≤ series 0 12
 unfolding series term
 at-zero = lit≤ tt
 
-at-cap : series most-exponent 12 ≤ 1_650_000_000
+at-cap : series most-exponent 12 ≤ largest-factor
 unfolding series term
 at-cap = lit≤ tt
 
-pub up-between : (y : ℕ) → y ≤ most-exponent → Between 1_000_000_000 1_650_000_000 (up-factor y)
+pub up-between : (y : ℕ) → y ≤ most-exponent → Between 1_000_000_000 largest-factor (up-factor y)
 unfolding up-factor
 up-between y h = record { least = le-trans at-zero (series-mono 12 zero-le); most = le-trans (series-mono 12 h) at-cap }
 
 -- ---- 10^18 by a factor between them
-pub down-between : (y : ℕ) → y ≤ most-exponent → Between 606_000_000 1_000_000_000 (down-factor y)
+pub down-between : (y : ℕ) → y ≤ most-exponent → Between least-factor 1_000_000_000 (down-factor y)
 unfolding down-factor
 down-between y h = go (up-factor y) (up-between y h)
   where
-    go : (u : ℕ) → Between 1_000_000_000 1_650_000_000 u → Between 606_000_000 1_000_000_000 (1_000_000_000_000_000_000 / u)
+    go : (u : ℕ) → Between 1_000_000_000 largest-factor u → Between least-factor 1_000_000_000 (1_000_000_000_000_000_000 / u)
     go u r =
         let positive : 0 < u = omega arith in
         record {
-          least = le-div-iff-mul-le positive .1 (le-trans (mul-le-mul (le-refl 606_000_000) (r .most)) (lit≤ tt));
+          least = le-div-iff-mul-le positive .1 (le-trans (mul-le-mul (le-refl least-factor) (r .most)) (lit≤ tt));
           most = div-le-of-le-mul u (le-trans (lit≤ tt) (mul-le-mul (r .least) (le-refl 1_000_000_000)));
         }
 
-pub factors-in : (y : ℕ) → y ≤ most-exponent → (Between 1_000_000_000 1_650_000_000 (factors-of y .up .0)) × (Between 606_000_000 1_000_000_000 (factors-of y .down .0))
+pub factors-in : (y : ℕ) → y ≤ most-exponent → (Between 1_000_000_000 largest-factor (factors-of y .up .0)) × (Between least-factor 1_000_000_000 (factors-of y .down .0))
 unfolding factors-of
 factors-in y h = (up-between y h, down-between y h)
 
@@ -86,9 +87,9 @@ module _ (a : ℤ) (n d : ℕ) (h : n ≤ d) (g : 0 < d) where
 
 -- rates of millionths, and so is what lies between them
 abbrev pub RateIn : ℤ → Type 0
-RateIn z = Span (pos 0) (pos 1_000_000) z
+RateIn z = Span (pos 0) (pos largest-rate) z
 
-between-in : (l r n d : ℕ) → l ≤ 1_000_000 → r ≤ 1_000_000 → n ≤ d → 0 < d → RateIn (pos l +ℤ floor ((pos r -ℤ pos l) *ℤ pos n) d)
+between-in : (l r n d : ℕ) → l ≤ largest-rate → r ≤ largest-rate → n ≤ d → 0 < d → RateIn (pos l +ℤ floor ((pos r -ℤ pos l) *ℤ pos n) d)
 between-in l r n d hl hr h g = ⊎-elim rise fall (le-or-lt (pos 0) (pos r -ℤ pos l))
   where
     f : ℤ
@@ -104,16 +105,16 @@ between-in l r n d hl hr h g = ⊎-elim rise fall (le-or-lt (pos 0) (pos r -ℤ 
         let q = part-of-fall (pos r -ℤ pos l) n d h g (omega zarith) in
         record { least = omega (zarith, q .least, add-is (pos l) f, sub-is (pos r) (pos l)); most = omega (zarith, q .most, add-is (pos l) f) }
 
-pub between-keys-in : (l r : Key) (days : ℕ) → l .rate .0 ≤ 1_000_000 → r .rate .0 ≤ 1_000_000 → l .days < days → days ≤ r .days → RateIn (between-keys l r days)
+pub between-keys-in : (l r : Key) (days : ℕ) → l .rate .0 ≤ largest-rate → r .rate .0 ≤ largest-rate → l .days < days → days ≤ r .days → RateIn (between-keys l r days)
 unfolding between-keys
 between-keys-in l r days hl hr h g =
     rw (pos-minus days (l .days) (omega arith))
     (between-in (l .rate .0) (r .rate .0) (days - l .days) (r .days - l .days) hl hr (omega arith) (omega arith))
 
-key-rate-in : (n : ℕ) → n ≤ 1_000_000 → RateIn (pos n)
+key-rate-in : (n : ℕ) → n ≤ largest-rate → RateIn (pos n)
 key-rate-in n h = record { least = omega zarith; most = omega zarith }
 
-rate-from-in : (l : Key) (keys : List Key) (days : ℕ) → l .rate .0 ≤ 1_000_000 → l .days < days → KeysIn (l .days) keys → RateIn (rate-from l keys days)
+rate-from-in : (l : Key) (keys : List Key) (days : ℕ) → l .rate .0 ≤ largest-rate → l .days < days → KeysIn (l .days) keys → RateIn (rate-from l keys days)
 unfolding rate-from KeysIn
 rate-from-in l [] days hl h k = key-rate-in (l .rate .0) hl
 rate-from-in l (r ∷ keys) days hl h k =
@@ -135,8 +136,8 @@ rate-is keys days k = go (rate-by-keys keys days) (rate-by-keys-in keys days k)
     go : (z : ℤ) → RateIn z → pos (natAbs z) ≡ z
     go z r = omega (zarith, r .least, abs-is z, apart z)
 
-pub rate-most : (keys : List Key) (days : ℕ) → KeysIn 0 keys → rate-at keys days ≤ 1_000_000
+pub rate-most : (keys : List Key) (days : ℕ) → KeysIn 0 keys → rate-at keys days ≤ largest-rate
 rate-most keys days k = go (rate-at keys days) (rate-is keys days k) (rate-by-keys-in keys days k)
   where
-    go : (n : ℕ) {z : ℤ} → pos n ≡ z → RateIn z → n ≤ 1_000_000
+    go : (n : ℕ) {z : ℤ} → pos n ≡ z → RateIn z → n ≤ largest-rate
     go n e r = omega (zarith, e, r .most)

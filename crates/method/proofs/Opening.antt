@@ -15,12 +15,12 @@ use Rattle.numbers.proofs.Linear.{≤ℤ-trans}
 use Rattle.numbers.proofs.Rounding.{floor-mono, ceiling-mono}
 use Rattle.numbers.proofs.Tests.{both, lt-false, le-true, in-range-true, between-true, in-span-true}
 use Rattle.method.specs.words.Types.{Steps, Millionths, Key, Contract, Line, TableReason}
-use Rattle.method.specs.words.Ranges.{ContractIn}
+use Rattle.method.specs.words.Ranges.{whole, most-days, largest-price, ContractIn}
 use Rattle.method.specs.words.Growth.{rate-at, exponent, most-exponent}
 use Rattle.method.specs.words.Opening.{normal-price, half-width, market-of, half-move, terms-of, corridor, fresh-line}
 use Rattle.method.specs.computed.Types.{LineAnswer}
 use Rattle.method.specs.computed.Opening.{rates-good, fields-good, id-good, inside-bounds, opened-with, open-line}
-use Rattle.method.specs.computed.Rooms.{MarketIn, LineIn}
+use Rattle.method.specs.computed.Rooms.{largest-half-move, MarketIn, LineIn}
 use Rattle.method.proofs.Demands.{met-by}
 use Rattle.method.proofs.Growth.{factors-in}
 use Rattle.method.proofs.Corridor.{corridor-in}
@@ -41,17 +41,17 @@ contract-in c e =
     let spot = both _ _ (least .0) in
     let price = both _ _ (spot .0) in
     record {
-      price = in-span-true 100_000_000 (c .price .0) (price .0);
+      price = in-span-true largest-price (c .price .0) (price .0);
       positive = λ n. le-true (pos 1) (c .price .0) (rw n at (price .1));
-      spot = in-span-true 100_000_000 (c .spot .0) (spot .1);
-      least = between-true (pos 1) (pos 100_000_000) (c .least .0) (least .1);
-      rate1 = in-range-true 1 1_000_000 (c .rate1 .0) (rate2 .0);
-      rate2 = in-range-true 1 1_000_000 (c .rate2 .0) (rate2 .1);
-      rate3 = in-range-true 1 1_000_000 (c .rate3 .0) (rate3 .1);
+      spot = in-span-true largest-price (c .spot .0) (spot .1);
+      least = between-true (pos 1) (pos largest-price) (c .least .0) (least .1);
+      rate1 = in-range-true 1 whole (c .rate1 .0) (rate2 .0);
+      rate2 = in-range-true 1 whole (c .rate2 .0) (rate2 .1);
+      rate3 = in-range-true 1 whole (c .rate3 .0) (rate3 .1);
       rising2 = leb-true (c .rate1 .0) (c .rate2 .0) (rising2 .1);
       rising3 = leb-true (c .rate2 .0) (c .rate3 .0) (rising3 .1);
-      width = leb-true (c .width .0) 1_000_000 (width .1);
-      days = leb-true (c .days) 3_650 (days .1);
+      width = leb-true (c .width .0) whole (width .1);
+      days = leb-true (c .days) most-days (days .1);
       flags = ltb-true (c .flags) 4 (flags .1);
     }
 
@@ -67,21 +67,21 @@ product-in (pos m) n j k r s = record { least = omega (zarith, mul-le-mul (posit
 product-in (negsuc m) n j k r s = absurd (r .least .le)
 
 -- ---- the half-widths
-pub normal-in : (c : Contract) → ContractIn c → Span (pos 1) (pos 100_000_000) (normal-price c)
+pub normal-in : (c : Contract) → ContractIn c → Span (pos 1) (pos largest-price) (normal-price c)
 unfolding normal-price
 normal-in c r = go (ltZ (pos (natAbs (c .spot .0))) (c .least .0)) refl
   where
-    go : (b : Bool) → ltZ (pos (natAbs (c .spot .0))) (c .least .0) ≡ b → Span (pos 1) (pos 100_000_000) (cond b (c .least .0) (pos (natAbs (c .spot .0))))
+    go : (b : Bool) → ltZ (pos (natAbs (c .spot .0))) (c .least .0) ≡ b → Span (pos 1) (pos largest-price) (cond b (c .least .0) (pos (natAbs (c .spot .0))))
     go true e = r .least
     go false e =
         let h = lt-false (pos (natAbs (c .spot .0))) (c .least .0) e in
         record { least = omega (zarith, r .least .least); most = omega (zarith, abs-is (c .spot .0), apart (c .spot .0), r .spot) }
 
-pub half-width-in : (c : Contract) (rate : Millionths) → ContractIn c → Between 1 1_000_000 (rate .0) → Span (pos 1) (pos 100_000_000) (half-width c rate .0)
+pub half-width-in : (c : Contract) (rate : Millionths) → ContractIn c → Between 1 whole (rate .0) → Span (pos 1) (pos largest-price) (half-width c rate .0)
 unfolding half-width
 half-width-in c rate r s =
-    let p = product-in (normal-price c) (rate .0) 100_000_000 1_000_000 (normal-in c r) s in
-    record { least = ceiling-mono {a = pos 1} 1_000_000 (p .least); most = ceiling-mono {b = pos 100_000_000_000_000} 1_000_000 (p .most) }
+    let p = product-in (normal-price c) (rate .0) largest-price whole (normal-in c r) s in
+    record { least = ceiling-mono {a = pos 1} whole (p .least); most = ceiling-mono {b = pos (largest-price * whole)} whole (p .most) }
 
 pub market-in : (c : Contract) → ContractIn c → MarketIn (market-of c)
 unfolding market-of
@@ -94,14 +94,14 @@ market-in c r =
     }
 
 -- ---- the half-move
-half-move-most : (shift : Millionths) (half1 : Steps) → Between 1 1_000_000 (shift .0) → Span (pos 1) (pos 100_000_000) (half1 .0) → (half-move shift half1 .0) ≤ℤ pos 50_000_000
+half-move-most : (shift : Millionths) (half1 : Steps) → Between 1 whole (shift .0) → Span (pos 1) (pos largest-price) (half1 .0) → (half-move shift half1 .0) ≤ℤ pos largest-half-move
 unfolding half-move
 half-move-most shift half1 s r =
-    floor-mono {a = pos (shift .0) *ℤ half1 .0} {b = pos 100_000_000_000_000} 2_000_000
-    (rw (*ℤ-comm (pos (shift .0)) (half1 .0)) (product-in (half1 .0) (shift .0) 100_000_000 1_000_000 r s .most))
+    floor-mono {a = pos (shift .0) *ℤ half1 .0} {b = pos (largest-price * whole)} (2 * whole)
+    (rw (*ℤ-comm (pos (shift .0)) (half1 .0)) (product-in (half1 .0) (shift .0) largest-price whole r s .most))
 
 -- ---- the whole line
-module _ (shift : Millionths) (y : ℕ) (c : Contract) (s : Between 1 1_000_000 (shift .0)) (r : ContractIn c) where
+module _ (shift : Millionths) (y : ℕ) (c : Contract) (s : Between 1 whole (shift .0)) (r : ContractIn c) where
   line-in : 0 < c .id → y ≤ most-exponent → pos 1 ≤ℤ (terms-of shift y c .halfmove .0) → inside-bounds (terms-of shift y c) (market-of c) (corridor (c .width) (terms-of shift y c) (market-of c)) ≡ true
       → LineIn (fresh-line (terms-of shift y c) (market-of c) (corridor (c .width) (terms-of shift y c) (market-of c)))
   unfolding fresh-line terms-of
@@ -130,7 +130,7 @@ not-opened e = let z : _≡_ {A = ℕ} 0 1 = cc in omega arith
 same-line : {k l : Line} → LineAnswer.Opened k ≡ LineAnswer.Opened l → k ≡ l
 same-line e = cc
 
-pub open-line-in : (shift : Millionths) (keys : List Key) (earlier : List Line) (c : Contract) (l : Line) → Between 1 1_000_000 (shift .0)
+pub open-line-in : (shift : Millionths) (keys : List Key) (earlier : List Line) (c : Contract) (l : Line) → Between 1 whole (shift .0)
     → open-line shift keys earlier c ≡ LineAnswer.Opened l → LineIn l
 unfolding open-line opened-with id-good
 open-line-in shift keys earlier c l s e =

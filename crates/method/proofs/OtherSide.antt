@@ -11,7 +11,7 @@ use lib.Signed.{ltZ, ≤ℤ-refl, _≤ℤ_, _<ℤ_}
 use Rattle.numbers.proofs.Halves.{zarith, le-halves, add-is, sub-is, lmul-is}
 use Rattle.numbers.proofs.Tests.{lt-true, true-lt}
 use Rattle.method.specs.words.Types.{Side, Up, Down, Seconds, Millionths, Market, Limits, Price, Absent, Given, Line, ShiftLine, State, steps, blank}
-use Rattle.method.specs.words.Ranges.{permits-negative, under-watch, Every}
+use Rattle.method.specs.words.Ranges.{whole, permits-negative, under-watch, Every}
 use Rattle.method.specs.words.Bounds.{bound}
 use Rattle.method.specs.words.Pressure.{close, price, presses}
 use Rattle.method.specs.laws.Seen.{presses-at}
@@ -98,7 +98,7 @@ up-on : (near : Millionths) (k n : Limits) (p : Price) → n .upper ≡ k .upper
 unfolding close
 up-on near k n Absent u h e = e
 up-on near k n (Given bid) u h e =
-    rw u (wider near ((k .upper .0 -ℤ bid .0) *ℤ pos 1_000_000) _ _ (from-below (k .upper .0) (k .lower .0) (n .lower .0) h) e)
+    rw u (wider near ((k .upper .0 -ℤ bid .0) *ℤ pos whole) _ _ (from-below (k .upper .0) (k .lower .0) (n .lower .0) h) e)
 
 down-on : (near : Millionths) (k n : Limits) (p : Price) → n .lower ≡ k .lower → n .frozen ≡ k .frozen → (k .upper .0) ≤ℤ (n .upper .0)
     → close Down near k p ≡ true → close Down near n p ≡ true
@@ -106,7 +106,7 @@ unfolding close
 down-on near k n Absent w g h e = e
 down-on near k n (Given ask) w g h e =
     let more = from-above (k .upper .0) (n .upper .0) (k .lower .0) h in
-    rw (w, g) (and-on (not (k .frozen)) (wider near ((ask .0 -ℤ k .lower .0) *ℤ pos 1_000_000) _ _ more) e)
+    rw (w, g) (and-on (not (k .frozen)) (wider near ((ask .0 -ℤ k .lower .0) *ℤ pos whole) _ _ more) e)
 
 -- ---- one line
 close-on : (near : Millionths) (to : Side) (l : Line) (p : Price) → Fit l → close (other to) near (l .limits) p ≡ true

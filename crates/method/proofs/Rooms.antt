@@ -1,6 +1,6 @@
 -- The ranges of one line: they hold at opening, and are kept by a shift, which uses one of those left, and by a quote. Assumes nothing.
 use mathlib.Core.Bool.{Bool, true, false, cond, _&&_}
-use Prim.Native.Nat.{ℕ, suc, _≤_}
+use Prim.Native.Nat.{ℕ, suc, _≤_, _<_}
 use native.Mathlib.Omega.{arith}
 use lib.Dec.{ltb, lit<}
 use lib.IntN.{ℤ, pos, _+ℤ_}
@@ -10,21 +10,22 @@ use Rattle.numbers.proofs.Halves.{zarith, apart, add-is}
 use Rattle.numbers.proofs.Linear.{≤ℤ-trans}
 use Rattle.numbers.proofs.Ranges.{within-more, within-pos, within-add, within-sub, within-mul, floor-within, ceiling-within, within-squeeze}
 use Rattle.method.specs.words.Types.{Side, Up, Down, Seconds, Millionths, Terms, Market, Absent, Hold, Idle, Since, Holds, Line, steps}
+use Rattle.method.specs.words.Ranges.{longest-session, most-shifts, largest-price}
 use Rattle.method.specs.words.Bounds.{market-bound, factor, interest, bound}
 use Rattle.method.specs.words.Pressure.{presses}
 use Rattle.method.specs.computed.Types.{Quote}
 use Rattle.method.specs.computed.Judge.{judged, judge}
 use Rattle.method.specs.computed.Shift.{toward, moved, ended, moved-line, shift-line}
 use Rattle.method.specs.computed.Event.{quoted-line}
-use Rattle.method.specs.computed.Rooms.{FactorsIn, LineIn, reach, MarketRoom, PriceIn, HoldIn, HoldsIn, Room}
+use Rattle.method.specs.computed.Rooms.{largest-half-move, reach, largest-factor, largest-market-bound, largest-bound, FactorsIn, LineIn, MarketRoom, PriceIn, HoldIn, HoldsIn, Room}
 use Rattle.method.proofs.Redrawn.{limits-moved}
 
--- ---- interest bounds and limits within 2,970,000,000
+-- ---- interest bounds and limits within the largest bound
 cond-within : (b : Bool) {k x y : ℕ} → x ≤ k → y ≤ k → cond b x y ≤ k
 cond-within true h g = h
 cond-within false h g = g
 
-pub factor-in : (side : Side) {t : Terms} → FactorsIn t → factor side t ≤ 1_650_000_000
+pub factor-in : (side : Side) {t : Terms} → FactorsIn t → factor side t ≤ largest-factor
 unfolding factor
 factor-in Up {t} r = cond-within (t .below) (omega (arith, r .down .most)) (r .up .most)
 factor-in Down {t} r = cond-within (t .below) (r .up .most) (omega (arith, r .down .most))
@@ -32,43 +33,43 @@ factor-in Down {t} r = cond-within (t .below) (r .up .most) (omega (arith, r .do
 pub span-within : {k : ℕ} {z : ℤ} → Span (pos 1) (pos k) z → Within k z
 span-within {k} {z} r = record { above = omega (zarith, r .least, r .most, apart z); below = omega (zarith, r .least, apart z) }
 
-pub market-bound-in : (side : Side) {left : ℕ} {m : Market} → MarketRoom left m → Within 1_800_000_000 (market-bound side (m .centre) (m .half1))
+pub market-bound-in : (side : Side) {left : ℕ} {m : Market} → MarketRoom left m → Within largest-market-bound (market-bound side (m .centre) (m .half1))
 market-bound-in Up r = within-more (within-add (r .centre) (span-within (r .half1))) (omega arith)
 market-bound-in Down r = within-more (within-sub (r .centre) (span-within (r .half1))) (omega arith)
 
-pub interest-within : (side : Side) (f : ℕ) {z : ℤ} → f ≤ 1_650_000_000 → Within 1_800_000_000 z → Within 2_970_000_000 (interest side f z)
+pub interest-within : (side : Side) (f : ℕ) {z : ℤ} → f ≤ largest-factor → Within largest-market-bound z → Within largest-bound (interest side f z)
 unfolding interest
-interest-within Up f h w = ceiling-within 2_970_000_000 1_000_000_000 (lit< tt) (within-mul w (within-pos h))
-interest-within Down f h w = floor-within 2_970_000_000 1_000_000_000 (lit< tt) (within-mul w (within-pos h))
+interest-within Up f h w = ceiling-within largest-bound 1_000_000_000 (lit< tt) (within-mul w (within-pos h))
+interest-within Down f h w = floor-within largest-bound 1_000_000_000 (lit< tt) (within-mul w (within-pos h))
 
-pub bound-in : (side : Side) {left : ℕ} {t : Terms} {m : Market} → FactorsIn t → MarketRoom left m → Within 2_970_000_000 (bound side t m)
+pub bound-in : (side : Side) {left : ℕ} {t : Terms} {m : Market} → FactorsIn t → MarketRoom left m → Within largest-bound (bound side t m)
 unfolding bound
 bound-in side {left} {t} {m} f r = interest-within side (factor side t) (factor-in side f) (market-bound-in side r)
 
 module _ {left : ℕ} {l : Line} (r : Room left l) where
-  pub upper-in : Within 2_970_000_000 (l .limits .upper .0)
+  pub upper-in : Within largest-bound (l .limits .upper .0)
   upper-in =
       let k = r .limits in
       within-squeeze (bound Down (l .terms) (l .market)) (l .limits .upper .0) (bound Up (l .terms) (l .market)) (≤ℤ-trans (k .lower) (k .ordered)) (k .upper)
       (bound-in Down (r .terms .factors) (r .market)) (bound-in Up (r .terms .factors) (r .market))
 
-  pub lower-in : Within 2_970_000_000 (l .limits .lower .0)
+  pub lower-in : Within largest-bound (l .limits .lower .0)
   lower-in =
       let k = r .limits in
       within-squeeze (bound Down (l .terms) (l .market)) (l .limits .lower .0) (bound Up (l .terms) (l .market)) (k .lower) (≤ℤ-trans (k .ordered) (k .upper))
       (bound-in Down (r .terms .factors) (r .market)) (bound-in Up (r .terms .factors) (r .market))
 
 -- ---- a shift: the market
-half-moved : (left : ℕ) (h by : ℤ) → left ≤ 15 → Span (pos 1) (pos 50_000_000) by → Span (pos 1) (pos (reach (suc left))) h
+half-moved : (left : ℕ) (h by : ℤ) → left < most-shifts → Span (pos 1) (pos largest-half-move) by → Span (pos 1) (pos (reach (suc left))) h
     → Span (pos 1) (pos (reach left)) (h +ℤ by)
 half-moved left h by few s r = record { least = omega (zarith, add-is h by, s .least, r .least); most = omega (zarith, add-is h by, s .most, r .most) }
 
-centre-moved : (side : Side) (left : ℕ) (c by : ℤ) → left ≤ 15 → Span (pos 1) (pos 50_000_000) by → Within (reach (suc left)) c
+centre-moved : (side : Side) (left : ℕ) (c by : ℤ) → left < most-shifts → Span (pos 1) (pos largest-half-move) by → Within (reach (suc left)) c
     → Within (reach left) (toward side (steps by) (steps c) .0)
 centre-moved Up left c by few s w = within-more (within-add w (span-within s)) (omega arith)
 centre-moved Down left c by few s w = within-more (within-sub w (span-within s)) (omega arith)
 
-market-moved : (side : Side) (left : ℕ) (t : Terms) (m : Market) → left ≤ 15 → Span (pos 1) (pos 50_000_000) (t .halfmove .0) → MarketRoom (suc left) m
+market-moved : (side : Side) (left : ℕ) (t : Terms) (m : Market) → left < most-shifts → Span (pos 1) (pos largest-half-move) (t .halfmove .0) → MarketRoom (suc left) m
     → MarketRoom left (moved side (t .halfmove) m)
 unfolding moved
 market-moved side left t m few s r =
@@ -88,13 +89,13 @@ ended-in : (side : Side) {h : Holds} → HoldsIn h → HoldsIn (ended side h)
 ended-in Up r = record { up = idle-in; down = r .down }
 ended-in Down r = record { up = r .up; down = idle-in }
 
-judged-in : (now : Seconds) (pressed : Bool) (h : Hold) → now .0 ≤ 172_800 → HoldIn h → HoldIn (judged now pressed h)
+judged-in : (now : Seconds) (pressed : Bool) (h : Hold) → now .0 ≤ longest-session → HoldIn h → HoldIn (judged now pressed h)
 unfolding judged HoldIn
 judged-in now false h e i = tt
 judged-in now true Idle e i = e
 judged-in now true (Since start) e i = i
 
-pub room-judge : (near : Millionths) (left : ℕ) (now : Seconds) {k : ℕ} {l : Line} → now .0 ≤ 172_800 → Room k l → Room k (judge near left now l)
+pub room-judge : (near : Millionths) (left : ℕ) (now : Seconds) {k : ℕ} {l : Line} → now .0 ≤ longest-session → Room k l → Room k (judge near left now l)
 unfolding judge
 room-judge near left now {k} {l} h r =
     record {
@@ -110,7 +111,7 @@ room-judge near left now {k} {l} h r =
     }
 
 -- ---- the whole line: shifted, quoted, opened
-pub room-moved : (side : Side) {left : ℕ} {l : Line} → left ≤ 15 → Room (suc left) l → Room left (moved-line side l)
+pub room-moved : (side : Side) {left : ℕ} {l : Line} → left < most-shifts → Room (suc left) l → Room left (moved-line side l)
 unfolding moved-line
 room-moved side {left} {l} few r =
     record {
@@ -121,26 +122,26 @@ room-moved side {left} {l} few r =
       holds = ended-in side (r .holds);
     }
 
-pub room-shifted : (near : Millionths) (left : ℕ) (side : Side) (now : Seconds) {l : Line} → left ≤ 15 → now .0 ≤ 172_800 → Room (suc left) l
+pub room-shifted : (near : Millionths) (left : ℕ) (side : Side) (now : Seconds) {l : Line} → left < most-shifts → now .0 ≤ longest-session → Room (suc left) l
     → Room left (shift-line near left side now l)
 unfolding shift-line
 room-shifted near left side now few h r = room-judge near left now h (room-moved side few r)
 
-pub room-quoted : (near : Millionths) (left : ℕ) (q : Quote) {l : Line} → q .time .0 ≤ 172_800 → PriceIn (q .bid) → PriceIn (q .ask) → Room left l
+pub room-quoted : (near : Millionths) (left : ℕ) (q : Quote) {l : Line} → q .time .0 ≤ longest-session → PriceIn (q .bid) → PriceIn (q .ask) → Room left l
     → Room left (quoted-line near left q l)
 unfolding quoted-line
 room-quoted near left q h bid ask r =
     room-judge near left (q .time) h
     (record { terms = r .terms; market = r .market; limits = r .limits; book = record { bid = bid; ask = ask }; holds = r .holds })
 
-half-opened : {left : ℕ} {h : ℤ} → left ≤ 16 → Span (pos 1) (pos 100_000_000) h → Span (pos 1) (pos (reach left)) h
+half-opened : {left : ℕ} {h : ℤ} → left ≤ most-shifts → Span (pos 1) (pos largest-price) h → Span (pos 1) (pos (reach left)) h
 half-opened few r = record { least = r .least; most = omega (zarith, r .most) }
 
 absent-in : PriceIn Absent
 unfolding PriceIn
 absent-in = tt
 
-pub room-opened : {left : ℕ} {l : Line} → left ≤ 16 → LineIn l → Room left l
+pub room-opened : {left : ℕ} {l : Line} → left ≤ most-shifts → LineIn l → Room left l
 room-opened few o =
     record {
       terms = o .terms;

@@ -3,6 +3,7 @@ use mathlib.Core.Path.{_≡_, subst}
 use Prim.Native.Nat.{ℕ, suc, _-_, _≤_, _<_}
 use native.Mathlib.Omega.{arith}
 use Rattle.method.specs.words.Types.{Side, Seconds, State, EventAnswer}
+use Rattle.method.specs.words.Ranges.{longest-session}
 use Rattle.method.specs.computed.Types.{Event, Damaged, Tick, Quoted}
 use Rattle.method.specs.computed.Shift.{shift-line, shifted}
 use Rattle.method.specs.computed.Event.{verdict, applied}
@@ -23,7 +24,7 @@ sane-opening s o =
       rooms = every-weaker LineIn (Room (s .left)) (λ l. room-opened (o .left)) (s .lines) (o .lines);
     }
 
-pub sane-shifted : (side : Side) (now : Seconds) (s : State) → 0 < s .left → now .0 ≤ 172_800 → Sane s → Sane (shifted side now s)
+pub sane-shifted : (side : Side) (now : Seconds) (s : State) → 0 < s .left → now .0 ≤ longest-session → Sane s → Sane (shifted side now s)
 unfolding shifted
 sane-shifted side now s h g v =
     record {

@@ -11,7 +11,7 @@ use borrow.Author.Tests.{leb-true, ltb-true}
 use Rattle.numbers.proofs.Tests.{both, in-range-true}
 use Rattle.method.specs.words.Types.{Header, Key, Contract, Line, TableReason, State}
 use Rattle.method.specs.words.Layout.{header-of, keys-at, contracts-start, contracts-at}
-use Rattle.method.specs.words.Ranges.{KeyIn, KeysIn, HeaderIn, Every}
+use Rattle.method.specs.words.Ranges.{most-contracts, most-keys, longest-session, longest-hold, most-shifts, largest-near-share, whole, largest-rate, most-days, HeaderIn, KeyIn, KeysIn, Every}
 use Rattle.method.specs.words.Tables.{opened, refused, opening-state}
 use Rattle.method.specs.computed.Types.{LineAnswer}
 use Rattle.method.specs.computed.Opening.{open-line}
@@ -32,13 +32,13 @@ header-in h e =
     let end = both _ _ (hold .0) in
     let counts = both _ _ (end .0) in
     record {
-      contracts = in-range-true 1 32 (h .contracts) (counts .0);
-      keys = in-range-true 1 16 (h .keys) (counts .1);
-      end = in-range-true 1 172_800 (h .end .0) (end .1);
-      hold = in-range-true 1 3_600 (h .hold .0) (hold .1);
-      most = leb-true (h .most) 16 (most .1);
-      near = in-range-true 1 500_000 (h .near .0) (near .1);
-      shift = in-range-true 1 1_000_000 (h .shift .0) (shift .1);
+      contracts = in-range-true 1 most-contracts (h .contracts) (counts .0);
+      keys = in-range-true 1 most-keys (h .keys) (counts .1);
+      end = in-range-true 1 longest-session (h .end .0) (end .1);
+      hold = in-range-true 1 longest-hold (h .hold .0) (hold .1);
+      most = leb-true (h .most) most-shifts (most .1);
+      near = in-range-true 1 largest-near-share (h .near .0) (near .1);
+      shift = in-range-true 1 whole (h .shift .0) (shift .1);
     }
 
 -- ---- the keys
@@ -47,7 +47,7 @@ unfolding key-good
 key-in before k e =
     let rate = both _ _ e in
     let days = both _ _ (rate .0) in
-    record { days = in-range-true 1 3_650 (k .days) (days .0); rising = ltb-true before (k .days) (days .1); rate = leb-true (k .rate .0) 1_000_000 (rate .1) }
+    record { days = in-range-true 1 most-days (k .days) (days .0); rising = ltb-true before (k .days) (days .1); rate = leb-true (k .rate .0) largest-rate (rate .1) }
 
 no-line : {n : ℕ} → _≡_ {A = Option ℕ} (some n) none → ⊥
 no-line e = let z : _≡_ {A = ℕ} 0 1 = cc in omega arith

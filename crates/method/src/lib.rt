@@ -1,6 +1,10 @@
-// The plain data of the method, parted as specs/ is. No function runs here: specs/ says over these types what is right, and the crates above
-// compute it.
+// The plain data of the method, parted as specs/ is, and the ends of ranges for the code. No function runs here: specs/ says over these types what
+// is right, and the crates above compute it.
 
+ghost use mathlib.Core.List.{[], _∷_};
+ghost use mathlib.Core.Path.{_≡_};
+ghost use Rattle.method.specs.words.Ranges.{most-contracts, most-keys, longest-session, longest-hold, most-shifts, largest-near-share, whole, largest-rate, most-days, largest-price, largest-quote};
+ghost use Rattle.method.specs.words.Growth.{most-exponent};
 use numbers::Billionths;
 use numbers::Millionths;
 use numbers::Seconds;
@@ -251,4 +255,59 @@ pub enum Found {
 pub enum LineAnswer {
     Opened(Line),
     Refused(TableReason),
+}
+
+// ==== the ends of ranges
+
+// One for each of specs/words/Ranges, and `most-exponent`: the code has no other number for them. The sizes of arrays that hold so many contracts,
+// keys or shifts are literals (32, 16, 16); where a count may be larger than its array, the proofs about that array fail.
+pub const MOST_CONTRACTS: u32 = 32;
+
+pub const MOST_KEYS: u32 = 16;
+
+pub const LONGEST_SESSION: u32 = 172_800;
+
+pub const LONGEST_HOLD: u32 = 3_600;
+
+pub const MOST_SHIFTS: u32 = 16;
+
+pub const LARGEST_NEAR_SHARE: u32 = 500_000;
+
+pub const WHOLE: u32 = 1_000_000;
+
+pub const LARGEST_RATE: u32 = 1_000_000;
+
+pub const MOST_DAYS: u32 = 3_650;
+
+pub const LARGEST_PRICE: i64 = 100_000_000;
+
+pub const LARGEST_QUOTE: i64 = 2_000_000_000;
+
+pub const MOST_EXPONENT: u64 = 500_000_000;
+
+// The lower ends of prices.
+pub const LOWEST_PRICE: i64 = -LARGEST_PRICE;
+
+pub const LOWEST_QUOTE: i64 = -LARGEST_QUOTE;
+
+const ALL_ENDS: [u64; 12] = [
+    MOST_CONTRACTS as u64,
+    MOST_KEYS as u64,
+    LONGEST_SESSION as u64,
+    LONGEST_HOLD as u64,
+    MOST_SHIFTS as u64,
+    LARGEST_NEAR_SHARE as u64,
+    WHOLE as u64,
+    LARGEST_RATE as u64,
+    MOST_DAYS as u64,
+    LARGEST_PRICE as u64,
+    LARGEST_QUOTE as u64,
+    MOST_EXPONENT,
+];
+
+// Nobody calls it: its contract says that each constant is its word, and where one differs it is not proved.
+fn ends() -> [u64; 12]
+    ensures { λ r. ⌜ r ≡ most-contracts ∷ most-keys ∷ longest-session ∷ longest-hold ∷ most-shifts ∷ largest-near-share ∷ whole ∷ largest-rate ∷ most-days ∷ largest-price ∷ largest-quote ∷ most-exponent ∷ [] ⌝ }
+{
+    ALL_ENDS
 }

@@ -9,8 +9,9 @@ use mir.Val.{SFits}
 use Rattle.numbers.specs.Ranges.{Within}
 use Rattle.numbers.proofs.Ranges.{fits, within-more, within-sub, within-mul, within-pos, within-lit}
 use Rattle.numbers.proofs.Machine.{cast-back}
+use Rattle.method.specs.words.Ranges.{whole}
 use Rattle.method.specs.words.Pressure.{price}
-use Rattle.method.specs.computed.Rooms.{PriceIn, BookIn}
+use Rattle.method.specs.computed.Rooms.{largest-bound, PriceIn, BookIn}
 use Rattle.pressure.specs.Names.{Side, Up, Down, Steps, Limits, Price, Given, Book}
 use Rattle.pressure.specs.Asks.{Apart}
 
@@ -21,8 +22,8 @@ module _ {near : ℕ} {k : Limits} {a b : ℤ} (q : Apart near k a b) where
   pub width-fits : SFits w64 (k .upper .0 -ℤ k .lower .0)
   width-fits = fits (within-sub (q .limits .upper) (q .limits .lower)) (lit< tt)
 
-  pub distance-product : SFits w64 ((a -ℤ b) *ℤ pos 1_000_000)
-  distance-product = fits (within-mul (within-sub (q .from) (q .to)) (within-lit 1_000_000)) (lit< tt)
+  pub distance-product : SFits w64 ((a -ℤ b) *ℤ pos whole)
+  distance-product = fits (within-mul (within-sub (q .from) (q .to)) (within-lit whole)) (lit< tt)
 
   pub width-product : SFits w64 (pos near *ℤ (k .upper .0 -ℤ k .lower .0))
   width-product = fits (within-mul (within-pos (q .share)) (within-sub (q .limits .upper) (q .limits .lower))) (lit< tt)
@@ -33,7 +34,7 @@ module _ {near : ℕ} {k : Limits} {a b : ℤ} (q : Apart near k a b) where
 pub ruleset distances = (distance-fits, width-fits, distance-product, width-product, share-fits, cast-back)
 
 -- ---- a price that is given
-pub given-in : {x : Price} {p : Steps} → x ≡ Given p → PriceIn x → Within 2_970_000_000 (p .0)
+pub given-in : {x : Price} {p : Steps} → x ≡ Given p → PriceIn x → Within largest-bound (p .0)
 unfolding PriceIn
 given-in {x} {p} e h = within-more (subst PriceIn e h) (lit≤ tt)
 

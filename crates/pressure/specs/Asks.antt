@@ -2,28 +2,29 @@
 use Prim.Native.Nat.{ℕ, _≤_}
 use lib.IntN.{ℤ}
 use Rattle.numbers.specs.Ranges.{Within}
-use Rattle.method.specs.computed.Rooms.{PriceIn, BookIn}
+use Rattle.method.specs.words.Ranges.{largest-near-share}
+use Rattle.method.specs.computed.Rooms.{largest-bound, PriceIn, BookIn}
 use Rattle.pressure.specs.Names.{Millionths, Limits, Price, Line}
 
 pub record LimitsWithin (k : Limits) : Type 0 where
-  pub upper : Within 2_970_000_000 (k .upper .0)
-  pub lower : Within 2_970_000_000 (k .lower .0)
+  pub upper : Within largest-bound (k .upper .0)
+  pub lower : Within largest-bound (k .lower .0)
 
 -- what the near test asks of a distance a - b
 pub record Apart (near : ℕ) (k : Limits) (a b : ℤ) : Type 0 where
-  pub share : near ≤ 500_000
+  pub share : near ≤ largest-near-share
   pub limits : LimitsWithin k
-  pub from : Within 2_970_000_000 a
-  pub to : Within 2_970_000_000 b
+  pub from : Within largest-bound a
+  pub to : Within largest-bound b
 
 -- what a price's test asks
 pub record Tested (near : Millionths) (k : Limits) (p : Price) : Type 0 where
-  pub share : near .0 ≤ 500_000
+  pub share : near .0 ≤ largest-near-share
   pub limits : LimitsWithin k
   pub price : PriceIn p
 
 -- what the pressure of a line asks
 pub record Pressed (near : Millionths) (l : Line) : Type 0 where
-  pub share : near .0 ≤ 500_000
+  pub share : near .0 ≤ largest-near-share
   pub limits : LimitsWithin (l .limits)
   pub book : BookIn (l .book)

@@ -16,6 +16,9 @@ use numbers::Millionths;
 use numbers::Seconds;
 use numbers::Steps;
 
+// As wide as a product of steps.
+const WHOLE: i64 = method::WHOLE as i64;
+
 // Whether the distance is under the near share of the corridor's width. Both sides are multiplied out, so that nothing is rounded.
 fn near_by(near: Millionths, k: Limits, from: Steps, to: Steps) -> bool
     requires { ⌜ Apart (near .0) k (from .0) (to .0) ⌝ }
@@ -24,7 +27,7 @@ fn near_by(near: Millionths, k: Limits, from: Steps, to: Steps) -> bool
     let distance = from.0 - to.0;
     let width = k.upper.0 - k.lower.0;
     let share = near.0 as i64;
-    distance * 1000000 < share * width
+    distance * WHOLE < share * width
 }
 
 // A price beyond its limit has a negative distance, and is close too.

@@ -7,7 +7,7 @@ ghost use lib.IntN.{pos};
 ghost use lib.ListN.{take};
 ghost use lib.Signed.{leZ};
 ghost use Rattle.method.specs.words.Layout.{table-length};
-ghost use Rattle.method.specs.words.Ranges.{permits-negative};
+ghost use Rattle.method.specs.words.Ranges.{most-keys, permits-negative};
 ghost use Rattle.method.specs.computed.Opening.{rates-good, fields-good};
 ghost use Rattle.method.specs.computed.Table.{bad-key, header-good, laid-out, key-good};
 ghost use Rattle.ranges.specs.BadKey.{line-or-zero};
@@ -22,25 +22,25 @@ use numbers::Steps;
 pub fn header_good(h: Header) -> bool
     ensures { λ r. ⌜ r ≡ header-good h ⌝ }
 {
-    if !numbers::in_range(1, 32, h.contracts) {
+    if !numbers::in_range(1, method::MOST_CONTRACTS, h.contracts) {
         return false;
     }
-    if !numbers::in_range(1, 16, h.keys) {
+    if !numbers::in_range(1, method::MOST_KEYS, h.keys) {
         return false;
     }
-    if !numbers::in_range(1, 172800, h.end.0) {
+    if !numbers::in_range(1, method::LONGEST_SESSION, h.end.0) {
         return false;
     }
-    if !numbers::in_range(1, 3600, h.hold.0) {
+    if !numbers::in_range(1, method::LONGEST_HOLD, h.hold.0) {
         return false;
     }
-    if 16 < h.most {
+    if method::MOST_SHIFTS < h.most {
         return false;
     }
-    if !numbers::in_range(1, 500000, h.near.0) {
+    if !numbers::in_range(1, method::LARGEST_NEAR_SHARE, h.near.0) {
         return false;
     }
-    numbers::in_range(1, 1000000, h.shift.0)
+    numbers::in_range(1, method::WHOLE, h.shift.0)
 }
 
 // Where the table ends as the counts say. The sums are of 64 bits, and fit whatever the counts are.
@@ -69,18 +69,18 @@ pub fn laid_out(h: Header, size: usize) -> bool
 fn key_good(before: u32, k: Key) -> bool
     ensures { λ r. ⌜ r ≡ key-good before k ⌝ }
 {
-    if !numbers::in_range(1, 3650, k.days) {
+    if !numbers::in_range(1, method::MOST_DAYS, k.days) {
         return false;
     }
     if k.days <= before {
         return false;
     }
-    k.rate.0 <= 1000000
+    k.rate.0 <= method::LARGEST_RATE
 }
 
 // The line of the first bad key, from 1, or 0 where there is none.
 pub fn first_bad_key(keys: [Key; 16], n: usize) -> u32
-    requires { ⌜ n ≤ 16 ⌝ }
+    requires { ⌜ n ≤ most-keys ⌝ }
     ensures { λ r. ⌜ r ≡ line-or-zero (bad-key 1 0 (take n keys)) ⌝ }
 {
     let mut last: u32 = 0;
@@ -104,16 +104,16 @@ pub fn first_bad_key(keys: [Key; 16], n: usize) -> u32
 fn rates_good(c: Contract) -> bool
     ensures { λ r. ⌜ r ≡ rates-good c ⌝ }
 {
-    if !numbers::in_range(1, 1000000, c.rate1.0) {
+    if !numbers::in_range(1, method::WHOLE, c.rate1.0) {
         return false;
     }
-    if !numbers::in_range(1, 1000000, c.rate2.0) {
+    if !numbers::in_range(1, method::WHOLE, c.rate2.0) {
         return false;
     }
     if c.rate2.0 < c.rate1.0 {
         return false;
     }
-    if !numbers::in_range(1, 1000000, c.rate3.0) {
+    if !numbers::in_range(1, method::WHOLE, c.rate3.0) {
         return false;
     }
     c.rate2.0 <= c.rate3.0
@@ -126,25 +126,33 @@ pub fn fields_good(c: Contract) -> bool
     let price = c.price;
     let spot = c.spot;
     let least = c.least;
-    if !numbers::between(Steps(-100000000), Steps(100000000), price) {
+    if !numbers::between(
+        Steps(method::LOWEST_PRICE),
+        Steps(method::LARGEST_PRICE),
+        price,
+    ) {
         return false;
     }
     if !positive(c.flags, price) {
         return false;
     }
-    if !numbers::between(Steps(-100000000), Steps(100000000), spot) {
+    if !numbers::between(
+        Steps(method::LOWEST_PRICE),
+        Steps(method::LARGEST_PRICE),
+        spot,
+    ) {
         return false;
     }
-    if !numbers::between(Steps(1), Steps(100000000), least) {
+    if !numbers::between(Steps(1), Steps(method::LARGEST_PRICE), least) {
         return false;
     }
     if !rates_good(c) {
         return false;
     }
-    if 1000000 < c.width.0 {
+    if method::WHOLE < c.width.0 {
         return false;
     }
-    if 3650 < c.days {
+    if method::MOST_DAYS < c.days {
         return false;
     }
     wire::reserved_zero(c.flags)

@@ -5,6 +5,7 @@ ghost use Prim.Native.Nat.{_+_, _*_, _≤_};
 ghost use lib.ListN.{length};
 ghost use Rattle.numbers.specs.Arrays.{padded};
 ghost use Rattle.method.specs.words.Layout.{header-of, key-at, contract-at, keys-at};
+ghost use Rattle.method.specs.words.Ranges.{most-keys};
 ghost use Rattle.records.specs.Keys.{no-key};
 use method::Contract;
 use method::Header;
@@ -70,7 +71,7 @@ pub fn contract(bytes: &[u8], at: usize) -> Contract
 // ---- the keys
 
 pub fn keys(bytes: &[u8], n: usize) -> [Key; 16]
-    requires { ⌜ (n ≤ 16) × (40 + 8 * n ≤ length (now bytes)) ⌝ }
+    requires { ⌜ (n ≤ most-keys) × (40 + 8 * n ≤ length (now bytes)) ⌝ }
     ensures { λ r. ⌜ r ≡ padded 16 no-key (keys-at (now (bytes .entry)) 40 n) ⌝ }
 {
     let mut keys = [NO_KEY; 16];

@@ -5,6 +5,7 @@ ghost use mathlib.Core.List.{map};
 ghost use Prim.Native.Nat.{_+_, _*_, _≤_};
 ghost use lib.IntN.{pos};
 ghost use lib.ListN.{length, take};
+ghost use Rattle.method.specs.words.Ranges.{most-shifts};
 ghost use Rattle.method.specs.told.Refusals.{table-number, event-number};
 ghost use Rattle.method.specs.told.Rows.{row-numbers, numbers-of, side-number};
 ghost use Rattle.rows.specs.Buffer.{written, room};
@@ -106,7 +107,7 @@ pub fn write(out: &mut [i64], at: usize, row: Row)
 
 // The first `made` shift lines, row by row; the answer is the place after them.
 pub fn write_shifts(out: &mut [i64], at: usize, shifts: [ShiftLine; 16], made: usize) -> usize
-    requires { ⌜ (made ≤ 16) × (at + 6 * made ≤ length (now out)) ⌝ }
+    requires { ⌜ (made ≤ most-shifts) × (at + 6 * made ≤ length (now out)) ⌝ }
     ensures { λ r. ⌜ r ≡ at + 6 * made ⌝ }
     ensures { λ _. ⌜ now (out .exit) ≡ written (now (out .entry)) at (numbers-of (map Row.Shift (take made shifts))) ⌝ }
 {

@@ -16,10 +16,10 @@ use Rattle.numbers.proofs.Halves.{zarith, sub-is, neg-is}
 use Rattle.numbers.proofs.Ranges.{fits, within-more, within-pos, within-lit, within-sub}
 use Rattle.numbers.proofs.Tests.{never-both, in-span-true, within-in}
 use Rattle.numbers.proofs.Deciding.{decided}
-use Rattle.method.specs.words.Ranges.{permits-negative}
+use Rattle.method.specs.words.Ranges.{longest-session, largest-near-share, largest-quote, permits-negative}
 use Rattle.method.specs.words.Bounds.{bound}
 use Rattle.method.specs.words.Pressure.{presses}
-use Rattle.method.specs.computed.Rooms.{reach, TermsIn, MarketRoom, Floor, LimitsRoom, PriceIn, HoldIn, Room}
+use Rattle.method.specs.computed.Rooms.{largest-reach, reach, TermsIn, Floor, MarketRoom, LimitsRoom, PriceIn, HoldIn, Room}
 use Rattle.method.specs.computed.Sound.{standing, Exact}
 use Rattle.method.proofs.Rooms.{span-within, upper-in, lower-in}
 use Rattle.bounds.specs.Asks.{Drawn}
@@ -28,8 +28,8 @@ use Rattle.soundness.specs.Names.{Steps, Millionths, Seconds, Up, Down, 
 
 -- ---- how far the market reaches
 module _ (left : ℕ) {most : ℤ} (e : most ≡ pos (reach left)) where
-  reaches : Within 900_000_000 most
-  reaches = subst (Within 900_000_000) (sym e) (within-pos (omega arith))
+  reaches : Within largest-reach most
+  reaches = subst (Within largest-reach) (sym e) (within-pos (omega arith))
 
   pub most-fits : SFits w64 most
   most-fits = fits reaches (lit< tt)
@@ -89,22 +89,22 @@ pub price-none : {p : Price} → p ≡ Absent → PriceIn p
 unfolding PriceIn
 price-none e = subst PriceIn (sym e) tt
 
-pub price-given : {p : Price} {z : Steps} {r : Bool} → p ≡ Given z → r ≡ in-span 2_000_000_000 (z .0) → Decides r (PriceIn p)
+pub price-given : {p : Price} {z : Steps} {r : Bool} → p ≡ Given z → r ≡ in-span largest-quote (z .0) → Decides r (PriceIn p)
 unfolding PriceIn
 price-given {z = z} {r = r} e q =
-    subst (λ (x : Price). Decides r (PriceIn x)) (sym e) (decided (in-span-true 2_000_000_000 (z .0)) within-in q)
+    subst (λ (x : Price). Decides r (PriceIn x)) (sym e) (decided (in-span-true largest-quote (z .0)) within-in q)
 
 pub hold-none : {h : Hold} → h ≡ Idle → HoldIn h
 unfolding HoldIn
 hold-none e = subst HoldIn (sym e) tt
 
-pub hold-since : {h : Hold} {start : Seconds} → h ≡ Since start → Decides (leb (start .0) 172_800) (HoldIn h)
+pub hold-since : {h : Hold} {start : Seconds} → h ≡ Since start → Decides (leb (start .0) longest-session) (HoldIn h)
 unfolding HoldIn
 hold-since {start = start} e =
-    subst (λ (x : Hold). Decides (leb (start .0) 172_800) (HoldIn x)) (sym e) (decided (leb-true (start .0) 172_800) (le-leb (start .0) 172_800) refl)
+    subst (λ (x : Hold). Decides (leb (start .0) longest-session) (HoldIn x)) (sym e) (decided (leb-true (start .0) longest-session) (le-leb (start .0) longest-session) refl)
 
 -- ---- holds and pressure
-pub pressed : {near : Millionths} {left : ℕ} {l : Line} → near .0 ≤ 500_000 → Room left l → Pressed near l
+pub pressed : {near : Millionths} {left : ℕ} {l : Line} → near .0 ≤ largest-near-share → Room left l → Pressed near l
 pressed h r = record { share = h; limits = record { upper = upper-in r; lower = lower-in r }; book = r .book }
 
 pub exact-both : (near : Millionths) (left : ℕ) (l : Line) → standing (l .holds .up) ≡ (ltb 0 left && presses Up near l)

@@ -3,6 +3,7 @@
 
 ghost use Prim.Native.Nat.{_≤_};
 ghost use Rattle.numbers.specs.Decides.{Decides};
+ghost use Rattle.method.specs.words.Ranges.{most-shifts, largest-near-share};
 ghost use Rattle.method.specs.computed.Rooms.{Room};
 ghost use Rattle.method.specs.computed.Sound.{Exact};
 use method::Line;
@@ -14,7 +15,7 @@ mod room;
 // Its ranges, and holds exactly where it presses. Pressure is worked out only once the ranges are known. How many shifts are left and the
 // near share are those of its session, which are in range.
 pub fn line(near: Millionths, left: u32, l: Line) -> bool
-    requires { ⌜ (left ≤ 16) × (near .0 ≤ 500_000) ⌝ }
+    requires { ⌜ (left ≤ most-shifts) × (near .0 ≤ largest-near-share) ⌝ }
     ensures { λ r. ⌜ Decides r (Room left l × Exact near left l) ⌝ }
 {
     if !room::room(left, l) {

@@ -4,7 +4,8 @@ ghost use mathlib.Core.Path.{_≡_};
 ghost use Prim.Native.Nat.{_≤_};
 ghost use lib.IntN.{pos, negℤ};
 ghost use Rattle.numbers.specs.Decides.{Decides};
-ghost use Rattle.method.specs.computed.Rooms.{FactorsIn, TermsIn, reach, MarketRoom, Floor, LimitsRoom, PriceIn, BookIn, HoldIn, HoldsIn, Room};
+ghost use Rattle.method.specs.words.Ranges.{most-shifts};
+ghost use Rattle.method.specs.computed.Rooms.{reach, FactorsIn, TermsIn, Floor, MarketRoom, LimitsRoom, PriceIn, BookIn, HoldIn, HoldsIn, Room};
 ghost use Rattle.bounds.specs.Asks.{Drawn};
 use method::Book;
 use method::Hold;
@@ -17,6 +18,17 @@ use method::Side;
 use method::Terms;
 use numbers::Steps;
 
+// The bounds that computed/Rooms draws from the words'.
+const LARGEST_FACTOR: u64 = 1_650_000_000;
+
+const LEAST_FACTOR: u64 = 606_000_000;
+
+const LARGEST_HALF_MOVE: i64 = method::LARGEST_PRICE / 2;
+
+const EACH_SHIFT: u32 = LARGEST_HALF_MOVE as u32;
+
+const LARGEST_REACH: u32 = method::LARGEST_PRICE as u32 + EACH_SHIFT * method::MOST_SHIFTS;
+
 fn factors(t: Terms) -> bool
     ensures { λ r. ⌜ Decides r (FactorsIn t) ⌝ }
 {
@@ -24,10 +36,10 @@ fn factors(t: Terms) -> bool
     if f.up.0 < 1000000000 {
         return false;
     }
-    if 1650000000 < f.up.0 {
+    if LARGEST_FACTOR < f.up.0 {
         return false;
     }
-    if f.down.0 < 606000000 {
+    if f.down.0 < LEAST_FACTOR {
         return false;
     }
     if 1000000000 < f.down.0 {
@@ -46,7 +58,7 @@ fn terms(t: Terms) -> bool
         return false;
     }
     let halfmove = t.halfmove;
-    if !numbers::between(Steps(1), Steps(50000000), halfmove) {
+    if !numbers::between(Steps(1), Steps(LARGEST_HALF_MOVE), halfmove) {
         return false;
     }
     factors(t)
@@ -54,15 +66,15 @@ fn terms(t: Terms) -> bool
 
 // How far a centre and a half-width reach while so many shifts are left.
 fn reach(left: u32) -> Steps
-    requires { ⌜ left ≤ 16 ⌝ }
+    requires { ⌜ left ≤ most-shifts ⌝ }
     ensures { λ r. ⌜ r .0 ≡ pos (reach left) ⌝ }
 {
-    Steps(((900000000 - 50000000 * left) as u64) as i64)
+    Steps(((LARGEST_REACH - EACH_SHIFT * left) as u64) as i64)
 }
 
 // The least centre of that reach.
 fn least(left: u32) -> Steps
-    requires { ⌜ left ≤ 16 ⌝ }
+    requires { ⌜ left ≤ most-shifts ⌝ }
     ensures { λ r. ⌜ r .0 ≡ negℤ (pos (reach left)) ⌝ }
 {
     let most = reach(left);
@@ -70,7 +82,7 @@ fn least(left: u32) -> Steps
 }
 
 fn market(left: u32, m: Market) -> bool
-    requires { ⌜ left ≤ 16 ⌝ }
+    requires { ⌜ left ≤ most-shifts ⌝ }
     ensures { λ r. ⌜ Decides r (MarketRoom left m) ⌝ }
 {
     let most = reach(left);
@@ -127,7 +139,11 @@ fn price(p: Price) -> bool
 {
     match p {
         Price::Absent => true,
-        Price::Given(z) => numbers::between(Steps(-2000000000), Steps(2000000000), z),
+        Price::Given(z) => numbers::between(
+            Steps(method::LOWEST_QUOTE),
+            Steps(method::LARGEST_QUOTE),
+            z,
+        ),
     }
 }
 
@@ -147,7 +163,7 @@ fn hold(h: Hold) -> bool
 {
     match h {
         Hold::Idle => true,
-        Hold::Since(start) => start.0 <= 172800,
+        Hold::Since(start) => start.0 <= method::LONGEST_SESSION,
     }
 }
 
@@ -164,7 +180,7 @@ fn holds(h: Holds) -> bool
 
 // All five records of a line.
 pub fn room(left: u32, l: Line) -> bool
-    requires { ⌜ left ≤ 16 ⌝ }
+    requires { ⌜ left ≤ most-shifts ⌝ }
     ensures { λ r. ⌜ Decides r (Room left l) ⌝ }
 {
     let t = l.terms;

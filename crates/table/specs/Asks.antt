@@ -4,13 +4,13 @@ use Prim.Native.Nat.{ℕ, _≤_}
 use lib.ListN.{take}
 use Rattle.numbers.specs.Ranges.{Between}
 use Rattle.method.specs.words.Layout.{table-length}
-use Rattle.method.specs.words.Ranges.{HeaderIn, KeysIn}
+use Rattle.method.specs.words.Ranges.{most-keys, whole, HeaderIn, KeysIn}
 use Rattle.table.specs.Names.{Millionths, Header, Key}
 
 -- the shift share and the first n of 16 keys, checked
 pub record Ready (shift : Millionths) (keys : List Key) (n : ℕ) : Type 0 where
-  pub share : Between 1 1_000_000 (shift .0)
-  pub count : Between 1 16 n
+  pub share : Between 1 whole (shift .0)
+  pub count : Between 1 most-keys n
   pub good : KeysIn 0 (take n keys)
 
 -- a header and keys that passed their tests, with all contracts in the bytes

@@ -5,6 +5,7 @@ ghost use mathlib.Core.List.{[]};
 ghost use Prim.Native.Nat.{_≤_};
 ghost use lib.ListN.{length, take};
 ghost use Rattle.method.specs.words.Layout.{header-of, contracts-start, table-length, contracts-at};
+ghost use Rattle.method.specs.words.Ranges.{most-contracts};
 ghost use Rattle.method.specs.words.Tables.{refused};
 ghost use Rattle.method.specs.computed.Opening.{id-good, open-line};
 ghost use Rattle.method.specs.computed.Table.{open-lines, opening};
@@ -67,7 +68,7 @@ const BLANK: Line = Line {
 
 // An id that is not 0 and stands on none of the first `count` lines (refusal 6).
 fn id_good(lines: [Line; 32], count: usize, id: u32) -> bool
-    requires { ⌜ count ≤ 32 ⌝ }
+    requires { ⌜ count ≤ most-contracts ⌝ }
     ensures { λ r. ⌜ r ≡ id-good (take count lines) id ⌝ }
 {
     if id == 0 {
@@ -93,7 +94,7 @@ fn open_line(
     count: usize,
     c: Contract,
 ) -> LineAnswer
-    requires { ⌜ Ready shift keys n × (count ≤ 32) ⌝ }
+    requires { ⌜ Ready shift keys n × (count ≤ most-contracts) ⌝ }
     ensures { λ r. ⌜ r ≡ open-line shift (take n keys) (take count lines) c ⌝ }
 {
     let good_fields = ranges::fields_good(c);
@@ -105,7 +106,7 @@ fn open_line(
         return LineAnswer::Refused(TableReason::Id);
     }
     let y = growth::exponent(growth::rate_at(keys, n, c.days), c.days);
-    if 500000000 < y.0 {
+    if method::MOST_EXPONENT < y.0 {
         return LineAnswer::Refused(TableReason::Exponent);
     }
     let width = c.width;

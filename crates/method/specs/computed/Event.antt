@@ -9,6 +9,7 @@ use lib.Signed.{leZ}
 use Rattle.numbers.specs.Tests.{in-span, same}
 use Rattle.method.specs.words.Types.{Millionths, Seconds, Price, Absent, Given, Line, EventReason, EventAnswer, steps, seconds, State}
 use Rattle.method.specs.words.Wire.{word, signed, bit}
+use Rattle.method.specs.words.Ranges.{largest-quote}
 use Rattle.method.specs.words.Sessions.{Answer, accepted, refused}
 use Rattle.method.specs.told.Questions.{known, demand}
 use Rattle.method.specs.computed.Types.{Quote, Event, Damaged, Tick, Quoted}
@@ -18,7 +19,7 @@ use Rattle.method.specs.computed.Shift.{with-lines, after}
 -- ---- what a byte string says
 -- a price field, present or absent
 abbrev pub price-good : Bool → ℤ → Bool
-price-good true z = in-span 2_000_000_000 z
+price-good true z = in-span largest-quote z
 price-good false z = same z (pos 0)
 
 abbrev pub price-of : Bool → ℤ → Price

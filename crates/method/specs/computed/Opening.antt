@@ -7,7 +7,7 @@ use lib.IntN.{pos}
 use lib.Signed.{leZ}
 use Rattle.numbers.specs.Tests.{in-span, in-range, between}
 use Rattle.method.specs.words.Types.{Millionths, Key, Contract, Up, Down, Terms, Market, Limits, Line, TableReason}
-use Rattle.method.specs.words.Ranges.{permits-negative}
+use Rattle.method.specs.words.Ranges.{whole, most-days, largest-price, permits-negative}
 use Rattle.method.specs.words.Growth.{most-exponent}
 use Rattle.method.specs.words.Bounds.{bound}
 use Rattle.method.specs.words.Opening.{market-of, terms-of, corridor, fresh-line, exponent-of}
@@ -17,14 +17,14 @@ use Rattle.method.specs.computed.Types.{LineAnswer}
 -- ---- ranges (refusal 5)
 unfoldable pub rates-good : Contract → Bool
 rates-good c =
-    in-range 1 1_000_000 (c .rate1 .0) && in-range 1 1_000_000 (c .rate2 .0) && leb (c .rate1 .0) (c .rate2 .0)
-    && in-range 1 1_000_000 (c .rate3 .0) && leb (c .rate2 .0) (c .rate3 .0)
+    in-range 1 whole (c .rate1 .0) && in-range 1 whole (c .rate2 .0) && leb (c .rate1 .0) (c .rate2 .0)
+    && in-range 1 whole (c .rate3 .0) && leb (c .rate2 .0) (c .rate3 .0)
 
 -- all fields but the id
 unfoldable pub fields-good : Contract → Bool
 fields-good c =
-    in-span 100_000_000 (c .price .0) && (permits-negative (c .flags) || leZ (pos 1) (c .price .0)) && in-span 100_000_000 (c .spot .0)
-    && between (pos 1) (pos 100_000_000) (c .least .0) && rates-good c && leb (c .width .0) 1_000_000 && leb (c .days) 3_650
+    in-span largest-price (c .price .0) && (permits-negative (c .flags) || leZ (pos 1) (c .price .0)) && in-span largest-price (c .spot .0)
+    && between (pos 1) (pos largest-price) (c .least .0) && rates-good c && leb (c .width .0) whole && leb (c .days) most-days
     && ltb (c .flags) 4
 
 abbrev pub ids : List Line → List ℕ

@@ -2,32 +2,58 @@
 -- rests on them, and so does whoever takes a session up from a state that was kept (`Proper`).
 use mathlib.Core.Bool.{true, false}
 use mathlib.Core.Path.{_≡_}
-use Prim.Native.Nat.{ℕ, _≤_, _<_, _-_, _*_}
+use Prim.Native.Nat.{ℕ, _+_, _≤_, _<_, _-_, _*_, _/_}
 use lib.IntN.{pos}
 use lib.ListN.{length}
 use lib.Signed.{_≤ℤ_}
 use Rattle.numbers.specs.Ranges.{Within, Between, Span}
 use Rattle.method.specs.words.Types.{Up, Down, Terms, Market, Limits, Price, Absent, Given, Book, Hold, Idle, Since, Holds, Line, seconds, State, empty-book, no-holds}
-use Rattle.method.specs.words.Ranges.{permits-negative, Every}
+use Rattle.method.specs.words.Ranges.{most-contracts, longest-session, longest-hold, most-shifts, largest-near-share, largest-price, largest-quote, permits-negative, Every}
 use Rattle.method.specs.words.Bounds.{bound}
 use Rattle.method.specs.computed.Types.{Event, Damaged, Tick, Quoted}
 
--- ---- a line; the factors are those up to the cap
+-- ---- bounds that follow from those of the words; sums and products of the code fit by them
+-- a half-move: half of the largest half-width, at a shift share of the whole
+abbrev pub largest-half-move : ℕ
+largest-half-move = largest-price / 2
+
+-- How far a centre and a half-width reach while `left` shifts are left: the largest price at opening, and at most a half-move further by each shift.
+abbrev pub largest-reach : ℕ
+largest-reach = largest-price + largest-half-move * most-shifts
+
+abbrev pub reach : ℕ → ℕ
+reach left = largest-reach - largest-half-move * left
+
+-- the factors, up to the cap on the exponent (`factors-in`)
+abbrev pub largest-factor : ℕ
+largest-factor = 1_650_000_000
+
+abbrev pub least-factor : ℕ
+least-factor = 606_000_000
+
+-- a market bound, as far from the centre as that is from 0, and an interest bound; a limit lies inside of it
+abbrev pub largest-market-bound : ℕ
+largest-market-bound = 2 * largest-reach
+
+abbrev pub largest-bound : ℕ
+largest-bound = largest-market-bound * largest-factor / 1_000_000_000
+
+-- ---- a line
 pub record FactorsIn (t : Terms) : Type 0 where
-  pub up : Between 1_000_000_000 1_650_000_000 (t .factors .up .0)
-  pub down : Between 606_000_000 1_000_000_000 (t .factors .down .0)
+  pub up : Between 1_000_000_000 largest-factor (t .factors .up .0)
+  pub down : Between least-factor 1_000_000_000 (t .factors .down .0)
 
 pub record TermsIn (t : Terms) : Type 0 where
   pub id : 0 < t .id
   pub flags : t .flags < 4
-  pub halfmove : Span (pos 1) (pos 50_000_000) (t .halfmove .0)
+  pub halfmove : Span (pos 1) (pos largest-half-move) (t .halfmove .0)
   pub factors : FactorsIn t
 
 pub record MarketIn (m : Market) : Type 0 where
-  pub centre : Within 100_000_000 (m .centre .0)
-  pub half1 : Span (pos 1) (pos 100_000_000) (m .half1 .0)
-  pub half2 : Span (pos 1) (pos 100_000_000) (m .half2 .0)
-  pub half3 : Span (pos 1) (pos 100_000_000) (m .half3 .0)
+  pub centre : Within largest-price (m .centre .0)
+  pub half1 : Span (pos 1) (pos largest-price) (m .half1 .0)
+  pub half2 : Span (pos 1) (pos largest-price) (m .half2 .0)
+  pub half3 : Span (pos 1) (pos largest-price) (m .half3 .0)
 
 -- The floor of one step: nothing stands below it where negative prices are not permitted, and what is frozen stands there.
 pub record Floor (k : Limits) (flags : ℕ) : Type 0 where
@@ -52,19 +78,15 @@ pub record LineIn (l : Line) : Type 0 where
   pub holds : l .holds ≡ no-holds
 
 pub record OpeningIn (s : State) : Type 0 where
-  pub count : Between 1 32 (length (s .lines))
+  pub count : Between 1 most-contracts (length (s .lines))
   pub lines : Every LineIn (s .lines)
   pub clock : s .clock ≡ seconds 0
-  pub end : Between 1 172_800 (s .end .0)
-  pub hold : Between 1 3_600 (s .hold .0)
-  pub left : s .left ≤ 16
-  pub near : Between 1 500_000 (s .near .0)
+  pub end : Between 1 longest-session (s .end .0)
+  pub hold : Between 1 longest-hold (s .hold .0)
+  pub left : s .left ≤ most-shifts
+  pub near : Between 1 largest-near-share (s .near .0)
 
 -- ---- a line while `left` shifts are left
--- How far a centre and a half-width reach: 100,000,000 at opening, and at most 50,000,000 further by each of at most 16 shifts.
-abbrev pub reach : ℕ → ℕ
-reach left = 900_000_000 - 50_000_000 * left
-
 pub record MarketRoom (left : ℕ) (m : Market) : Type 0 where
   pub centre : Within (reach left) (m .centre .0)
   pub half1 : Span (pos 1) (pos (reach left)) (m .half1 .0)
@@ -79,7 +101,7 @@ pub record LimitsRoom (t : Terms) (m : Market) (k : Limits) : Type 0 where
 
 unfoldable pub PriceIn : Price → Type 0
 PriceIn Absent = Unit {0}
-PriceIn (Given p) = Within 2_000_000_000 (p .0)
+PriceIn (Given p) = Within largest-quote (p .0)
 
 pub record BookIn (b : Book) : Type 0 where
   pub bid : PriceIn (b .bid)
@@ -88,7 +110,7 @@ pub record BookIn (b : Book) : Type 0 where
 -- a hold starts no later than the longest session ends
 unfoldable pub HoldIn : Hold → Type 0
 HoldIn Idle = Unit {0}
-HoldIn (Since start) = start .0 ≤ 172_800
+HoldIn (Since start) = start .0 ≤ longest-session
 
 pub record HoldsIn (h : Holds) : Type 0 where
   pub up : HoldIn (h .up)
@@ -103,11 +125,11 @@ pub record Room (left : ℕ) (l : Line) : Type 0 where
 
 -- ---- a state, and an event
 pub record Sane (s : State) : Type 0 where
-  pub hold : Between 1 3_600 (s .hold .0)
-  pub end : s .end .0 ≤ 172_800
+  pub hold : Between 1 longest-hold (s .hold .0)
+  pub end : s .end .0 ≤ longest-session
   pub clock : s .clock .0 ≤ s .end .0
-  pub left : s .left ≤ 16
-  pub near : Between 1 500_000 (s .near .0)
+  pub left : s .left ≤ most-shifts
+  pub near : Between 1 largest-near-share (s .near .0)
   pub rooms : Every (Room (s .left)) (s .lines)
 
 unfoldable pub EventIn : Event → Type 0

@@ -8,6 +8,7 @@ use lib.ListN.{length}
 use Rattle.numbers.specs.Tests.{in-range}
 use Rattle.method.specs.words.Types.{Header, Key, Contract, Line, TableReason}
 use Rattle.method.specs.words.Layout.{header-of, contracts-start, table-length, keys-at, contracts-at}
+use Rattle.method.specs.words.Ranges.{most-contracts, most-keys, longest-session, longest-hold, most-shifts, largest-near-share, whole, largest-rate, most-days}
 use Rattle.method.specs.words.Tables.{Opening, opened, refused, opening-state}
 use Rattle.method.specs.told.Questions.{demand}
 use Rattle.method.specs.computed.Types.{LineAnswer}
@@ -16,15 +17,15 @@ use Rattle.method.specs.computed.Opening.{open-line}
 -- ---- the header: refusal 3, and the rest of refusal 1
 unfoldable pub header-good : Header → Bool
 header-good h =
-    in-range 1 32 (h .contracts) && in-range 1 16 (h .keys) && in-range 1 172_800 (h .end .0) && in-range 1 3_600 (h .hold .0)
-    && leb (h .most) 16 && in-range 1 500_000 (h .near .0) && in-range 1 1_000_000 (h .shift .0)
+    in-range 1 most-contracts (h .contracts) && in-range 1 most-keys (h .keys) && in-range 1 longest-session (h .end .0) && in-range 1 longest-hold (h .hold .0)
+    && leb (h .most) most-shifts && in-range 1 largest-near-share (h .near .0) && in-range 1 whole (h .shift .0)
 
 unfoldable pub laid-out : Header → ℕ → Bool
 laid-out h size = eqb (h .keysat) 40 && eqb (h .contractsat) (contracts-start h) && eqb size (table-length h)
 
 -- ---- the keys: refusal 4
 unfoldable pub key-good : ℕ → Key → Bool
-key-good before k = in-range 1 3_650 (k .days) && ltb before (k .days) && leb (k .rate .0) 1_000_000
+key-good before k = in-range 1 most-days (k .days) && ltb before (k .days) && leb (k .rate .0) largest-rate
 
 -- the line of the first bad key, if there is one; `before` has the days of the key before it
 unfoldable pub bad-key : ℕ → ℕ → List Key → Option ℕ

@@ -8,7 +8,7 @@ use lib.ListN.{length}
 use Rattle.method.specs.words.Types.{Seconds, Side, Idle, ShiftLine, Due, seconds, State, empty-book}
 use Rattle.method.specs.words.Wire.{word}
 use Rattle.method.specs.words.Layout.{header-of}
-use Rattle.method.specs.words.Ranges.{Every}
+use Rattle.method.specs.words.Ranges.{most-shifts, Every}
 use Rattle.method.specs.words.Holds.{Stands, Done, hold-at}
 use Rattle.method.specs.words.Sessions.{Serves, Follows, Answer, AnswersInWords, joined}
 use Rattle.method.specs.words.Rules.{ExactlyOne, Opens, AfterAny}
@@ -70,7 +70,7 @@ ShiftsCounted From = AfterAny From (λ o from bs rs s. length (joined rs) + s .l
 
 -- An accepted event has at most 16 shift lines: no more shifts than that are ever left. (METHOD 24.17; rule2-at-most-sixteen)
 abbrev pub AtMostSixteen : (State → Type 0) → Type 0
-AtMostSixteen From = AnyAccepted From (λ s b cs n. length cs ≤ 16)
+AtMostSixteen From = AnyAccepted From (λ s b cs n. length cs ≤ most-shifts)
 
 -- ---- all of it: of what a table opens (rule2), and of what a host has kept (rule2-kept)
 pub record Rule2 (From : State → Type 0) : Type 0 where

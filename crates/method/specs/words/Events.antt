@@ -9,12 +9,12 @@ use lib.Signed.{_<ℤ_}
 use Rattle.numbers.specs.Ranges.{Within}
 use Rattle.method.specs.words.Types.{EventReason, EventAnswer, State}
 use Rattle.method.specs.words.Wire.{word, signed, bit}
-use Rattle.method.specs.words.Ranges.{Every}
+use Rattle.method.specs.words.Ranges.{largest-quote, Every}
 
 -- ---- a byte string that is an event (METHOD 12)
 -- a price field: 0 where its flag does not say present
 pub record PriceField (present : Bool) (z : ℤ) : Type 0 where
-  pub in-range : present ≡ true → Within 2_000_000_000 z
+  pub in-range : present ≡ true → Within largest-quote z
   pub absent : present ≡ false → z ≡ pos 0
 
 pub record IsTick (b : List ℕ) : Type 0 where

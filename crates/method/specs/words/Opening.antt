@@ -1,12 +1,12 @@
 -- The line that a contract opens: its market, its terms, its corridor (METHOD 5, 7, 9, 10).
 use mathlib.Core.Bool.{cond, Bool, true, false}
 use mathlib.Core.List.{List}
-use Prim.Native.Nat.{ℕ}
+use Prim.Native.Nat.{ℕ, _*_}
 use lib.IntN.{ℤ, pos, _+ℤ_, _-ℤ_, _*ℤ_, natAbs}
 use lib.Signed.{ltZ}
 use Rattle.numbers.specs.Rounding.{floor, ceiling}
 use Rattle.method.specs.words.Types.{Steps, Millionths, Key, Contract, Up, Down, Terms, Market, Limits, Line, steps, empty-book, no-holds}
-use Rattle.method.specs.words.Ranges.{permits-negative}
+use Rattle.method.specs.words.Ranges.{whole, permits-negative}
 use Rattle.method.specs.words.Growth.{rate-at, exponent, factors-of}
 use Rattle.method.specs.words.Bounds.{bound}
 
@@ -16,7 +16,7 @@ normal-price c = let size : ℤ = pos (natAbs (c .spot .0)) in cond (ltZ size (c
 
 -- a level's share of the normal price, rounded up (METHOD 7.2)
 unfoldable pub half-width : Contract → Millionths → Steps
-half-width c rate = steps (ceiling (normal-price c *ℤ pos (rate .0)) 1_000_000)
+half-width c rate = steps (ceiling (normal-price c *ℤ pos (rate .0)) whole)
 
 -- the centre is P, and each level has its half-width (METHOD 7.2, 7.3)
 unfoldable pub market-of : Contract → Market
@@ -25,7 +25,7 @@ market-of c =
 
 -- half the shift share of the level 1 half-width, rounded down (METHOD 10.1)
 unfoldable pub half-move : Millionths → Steps → Steps
-half-move shift half1 = steps (floor (pos (shift .0) *ℤ half1 .0) 2_000_000)
+half-move shift half1 = steps (floor (pos (shift .0) *ℤ half1 .0) (2 * whole))
 
 -- what stays for the session, with exponent y
 unfoldable pub terms-of : Millionths → ℕ → Contract → Terms
@@ -40,7 +40,7 @@ terms-of shift y c =
 
 -- the corridor before the floor: as far from P on both sides (METHOD 9.1, 9.2)
 unfoldable pub corridor-half : Millionths → Terms → Market → ℤ
-corridor-half width t m = floor (pos (width .0) *ℤ (bound Up t m -ℤ bound Down t m)) 2_000_000
+corridor-half width t m = floor (pos (width .0) *ℤ (bound Up t m -ℤ bound Down t m)) (2 * whole)
 
 unfoldable pub corridor : Millionths → Terms → Market → Limits
 corridor width t m =

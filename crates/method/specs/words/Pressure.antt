@@ -3,11 +3,11 @@ use mathlib.Core.Bool.{Bool, false, _&&_, not}
 use lib.IntN.{ℤ, pos, _-ℤ_, _*ℤ_}
 use lib.Signed.{ltZ}
 use Rattle.method.specs.words.Types.{Millionths, Side, Up, Down, Limits, Price, Absent, Given, Book, Line}
-use Rattle.method.specs.words.Ranges.{under-watch}
+use Rattle.method.specs.words.Ranges.{whole, under-watch}
 
 -- a distance from a limit that is less than the near share of the corridor's width (METHOD 13.4)
 abbrev pub near-by : Millionths → Limits → ℤ → Bool
-near-by near k distance = ltZ (distance *ℤ pos 1_000_000) (pos (near .0) *ℤ (k .upper .0 -ℤ k .lower .0))
+near-by near k distance = ltZ (distance *ℤ pos whole) (pos (near .0) *ℤ (k .upper .0 -ℤ k .lower .0))
 
 -- A bid presses on the upper limit, an ask on the lower one unless that is frozen. Beyond the limit the distance is negative, and so less.
 -- (METHOD 13.2, 13.3, 13.5)

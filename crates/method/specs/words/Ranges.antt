@@ -1,4 +1,4 @@
--- The ranges of a table's fields (METHOD 3.1, 3.2, 3.3).
+-- The ranges of a table's fields (METHOD 3.1, 3.2, 3.3), and the ends of all ranges by name.
 use mathlib.Core.Bool.{Bool, false}
 use mathlib.Core.List.{List, [], _∷_}
 use mathlib.Core.Path.{_≡_}
@@ -9,6 +9,45 @@ use Rattle.numbers.specs.Ranges.{Within, Between, Span}
 use Rattle.method.specs.words.Types.{Header, Key, Contract}
 use Rattle.method.specs.words.Wire.{bit}
 
+-- ---- the ends of ranges: each number stands here and nowhere else (the exponent's is `most-exponent`). Code takes them by the constants of src/lib.rt,
+-- which are proved to be the same.
+abbrev pub most-contracts : ℕ
+most-contracts = 32
+
+abbrev pub most-keys : ℕ
+most-keys = 16
+
+-- seconds
+abbrev pub longest-session : ℕ
+longest-session = 172_800
+
+abbrev pub longest-hold : ℕ
+longest-hold = 3_600
+
+abbrev pub most-shifts : ℕ
+most-shifts = 16
+
+abbrev pub largest-near-share : ℕ
+largest-near-share = 500_000
+
+-- the whole of which a share is one: 1,000,000 millionths (METHOD 1.2)
+abbrev pub whole : ℕ
+whole = 1_000_000
+
+-- a year
+abbrev pub largest-rate : ℕ
+largest-rate = 1_000_000
+
+abbrev pub most-days : ℕ
+most-days = 3_650
+
+-- of the table, and of an event
+abbrev pub largest-price : ℕ
+largest-price = 100_000_000
+
+abbrev pub largest-quote : ℕ
+largest-quote = 2_000_000_000
+
 -- ---- the two flags of a contract (METHOD 3.6)
 abbrev pub permits-negative : ℕ → Bool
 permits-negative flags = bit 0 flags
@@ -18,19 +57,19 @@ under-watch flags = bit 1 flags
 
 -- ---- the header (METHOD 3.1)
 pub record HeaderIn (h : Header) : Type 0 where
-  pub contracts : Between 1 32 (h .contracts)
-  pub keys : Between 1 16 (h .keys)
-  pub end : Between 1 172_800 (h .end .0)
-  pub hold : Between 1 3_600 (h .hold .0)
-  pub most : h .most ≤ 16
-  pub near : Between 1 500_000 (h .near .0)
-  pub shift : Between 1 1_000_000 (h .shift .0)
+  pub contracts : Between 1 most-contracts (h .contracts)
+  pub keys : Between 1 most-keys (h .keys)
+  pub end : Between 1 longest-session (h .end .0)
+  pub hold : Between 1 longest-hold (h .hold .0)
+  pub most : h .most ≤ most-shifts
+  pub near : Between 1 largest-near-share (h .near .0)
+  pub shift : Between 1 whole (h .shift .0)
 
 -- ---- keys, each above the one before it (METHOD 3.2)
 pub record KeyIn (before : ℕ) (k : Key) : Type 0 where
-  pub days : Between 1 3_650 (k .days)
+  pub days : Between 1 most-days (k .days)
   pub rising : before < k .days
-  pub rate : k .rate .0 ≤ 1_000_000
+  pub rate : k .rate .0 ≤ largest-rate
 
 unfoldable pub KeysIn : ℕ → List Key → Type 0
 KeysIn before [] = Unit {0}
@@ -38,17 +77,17 @@ KeysIn before (k ∷ keys) = KeyIn before k × KeysIn (k .days) keys
 
 -- ---- a contract, its id aside (METHOD 3.3)
 pub record ContractIn (c : Contract) : Type 0 where
-  pub price : Within 100_000_000 (c .price .0)
+  pub price : Within largest-price (c .price .0)
   pub positive : permits-negative (c .flags) ≡ false → pos 1 ≤ℤ (c .price .0)
-  pub spot : Within 100_000_000 (c .spot .0)
-  pub least : Span (pos 1) (pos 100_000_000) (c .least .0)
-  pub rate1 : Between 1 1_000_000 (c .rate1 .0)
-  pub rate2 : Between 1 1_000_000 (c .rate2 .0)
-  pub rate3 : Between 1 1_000_000 (c .rate3 .0)
+  pub spot : Within largest-price (c .spot .0)
+  pub least : Span (pos 1) (pos largest-price) (c .least .0)
+  pub rate1 : Between 1 whole (c .rate1 .0)
+  pub rate2 : Between 1 whole (c .rate2 .0)
+  pub rate3 : Between 1 whole (c .rate3 .0)
   pub rising2 : c .rate1 .0 ≤ c .rate2 .0
   pub rising3 : c .rate2 .0 ≤ c .rate3 .0
-  pub width : c .width .0 ≤ 1_000_000
-  pub days : c .days ≤ 3_650
+  pub width : c .width .0 ≤ whole
+  pub days : c .days ≤ most-days
   pub flags : c .flags < 4
 
 -- ---- of each element of a list

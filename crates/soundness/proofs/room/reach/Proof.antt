@@ -3,6 +3,7 @@ use borrow.Author.Needs.{needs}
 use Prim.Native.Nat.{_-_, _*_}
 use native.Mathlib.Omega.{arith}
 use Rattle.numbers.proofs.Machine.{cast-back}
+use Rattle.method.specs.computed.Rooms.{largest-half-move, largest-reach}
 use Rattle.soundness.proofs.room.reach.Statement.{statement}
 use Rattle.soundness.proofs.room.reach.Tie as tie
 
@@ -19,7 +20,7 @@ cast-t5 : tie.Need-cast-t5
 cast-t5 c = search needs
 
 returns : tie.Need-returns
-returns c = cast-back {n = 900_000_000 - 50_000_000 * (c .args .left)} (omega arith)
+returns c = cast-back {n = largest-reach - largest-half-move * (c .args .left)} (omega arith)
 
 pub reach-spec : {M : Type 1} → statement M
 reach-spec = tie.close (tie.spec mul-t2 sub-t3 cast-t4 cast-t5 returns)
