@@ -5,6 +5,7 @@ ghost use mathlib.Core.Path.{_≡_};
 ghost use Prim.Native.Nat.{_≤_};
 ghost use lib.IntN.{pos};
 ghost use Rattle.method.specs.words.Types.{steps};
+ghost use Rattle.method.specs.words.Ranges.{longest-hold};
 ghost use Rattle.method.specs.told.Refusals.{limits-said, report-said};
 ghost use Rattle.method.specs.told.Questions.{limits, place};
 ghost use Rattle.method.specs.told.Report.{line-report, report};
@@ -88,7 +89,7 @@ pub fn place(session: &[[u64; 21]; 33], id: u32, price: i64) -> i64
 
 // What stands on a line, with the hold seconds, the shifts left and the clock of its session.
 fn reported(session: &[[u64; 21]; 33], l: Line) -> Report
-    requires { ⌜ (session-in (now session) .hold .0 ≤ 3_600) × Room (session-in (now session) .left) l ⌝ }
+    requires { ⌜ (session-in (now session) .hold .0 ≤ longest-hold) × Room (session-in (now session) .left) l ⌝ }
     ensures { λ r. ⌜ r ≡ line-report (session-in (now (session .entry)) .hold) (session-in (now (session .entry)) .left)
         (session-in (now (session .entry)) .clock) l ⌝ }
 {

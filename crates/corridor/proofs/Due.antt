@@ -10,6 +10,7 @@ use lib.ListN.{length, getD, take, drop}
 use borrow.Author.Tests.{ltb-true, leb-false}
 use Rattle.numbers.proofs.Arrays.{passing, all-passed}
 use Rattle.method.specs.words.Types.{State, blank}
+use Rattle.method.specs.words.Ranges.{longest-hold}
 use Rattle.method.specs.computed.Search.{due-of, ahead, sooner, passed, earliest, in-time, next-due}
 use Rattle.method.specs.computed.Rooms.{HoldsIn}
 use Rattle.holds.proofs.Rooms.{room-passes}
@@ -23,8 +24,8 @@ abbrev pub Passed : Seconds → ℕ → List Line → ℕ → Found → Type 0
 Passed wait n rows i best = earliest wait i (drop i (take n rows)) best ≡ earliest wait 0 (take n rows) Nothing
 
 -- what passing a row asks
-pub row-passes : {s : Session} (wait : Seconds) (i : ℕ) → Ranged s → s .hold ≡ wait → i < s .count → HoldsIn (getD (s .lines) i blank .holds) × (wait .0 ≤ 3_600)
-row-passes wait i v e h = room-passes (subst (λ (w : Seconds). w .0 ≤ 3_600) e (v .sane .hold .most)) (room-at i v h)
+pub row-passes : {s : Session} (wait : Seconds) (i : ℕ) → Ranged s → s .hold ≡ wait → i < s .count → HoldsIn (getD (s .lines) i blank .holds) × (wait .0 ≤ longest-hold)
+row-passes wait i v e h = room-passes (subst (λ (w : Seconds). w .0 ≤ longest-hold) e (v .sane .hold .most)) (room-at i v h)
 
 pub passed-turn : (wait : Seconds) (n : ℕ) (rows : List Line) (i : ℕ) (best more : Found) → i < n → n ≤ length rows
     → more ≡ passed wait i (getD rows i blank .holds) best → Passed wait n rows i best → Passed wait n rows (i + 1) more

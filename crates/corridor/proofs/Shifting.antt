@@ -6,6 +6,7 @@ use native.Mathlib.Numerals.{add-one}
 use native.Mathlib.Omega.{arith}
 use lib.ListN.{length, getD, set, take, drop, length-map}
 use Rattle.method.specs.words.Types.{State, blank}
+use Rattle.method.specs.words.Ranges.{longest-session}
 use Rattle.method.specs.computed.Shift.{shift-line, shifted, onward, after}
 use Rattle.method.proofs.Sane.{sane-shifted}
 use Rattle.corridor.specs.Names.{Side, Seconds, Line, ShiftLine}
@@ -50,6 +51,6 @@ unfolding after
 after-last [] c s = refl
 after-last (b ∷ cs) c s = after-last cs c (onward s b)
 
-pub ranged-shifted : (side : Side) (now : Seconds) {s : Session} → Ranged s → 0 < s .left → now .0 ≤ 172_800 → Ranged (put s (shifted side now (view s)))
+pub ranged-shifted : (side : Side) (now : Seconds) {s : Session} → Ranged s → 0 < s .left → now .0 ≤ longest-session → Ranged (put s (shifted side now (view s)))
 ranged-shifted side now {s} v h g =
     ranged-put s (shifted side now (view s)) (v .full) (omega (arith, shifted-length side now (view s), ranged-length v, v .few)) (sane-shifted side now (view s) h g (v .sane))

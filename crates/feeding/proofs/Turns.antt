@@ -15,6 +15,7 @@ use Rattle.method.specs.computed.Relation.{time}
 use Rattle.method.specs.computed.Search.{serve}
 use Rattle.method.specs.computed.Rooms.{HoldsIn}
 use Rattle.method.specs.declared.Row.the-variants as Row
+use Rattle.method.specs.words.Ranges.{longest-hold}
 use Rattle.method.proofs.Serving.{serve-calls, calls-left}
 use Rattle.rows.specs.Buffer.{written}
 use Rattle.rows.proofs.Buffer.{nothing-written, numbers-one}
@@ -161,7 +162,7 @@ module _ (o : Session) (b : List ℕ) (out : List ℤ) (n : ℕ) (got : List ℕ
       caught-changes ch ec = subst (λ (x : State). Changes x e ch) (sym caught-view) (changes-after cs (view s) e ch (subst (Changes (view s) e) ec (o′ .changes)))
 
       -- the session that is handed on is valid, so the holds of the quoted line are in their range
-      pub turn-holds : (p : PlacedQuote) → v .change ≡ Change.Quote p → (m : Line) → m ≡ quoted-at s′ p → HoldsIn (m .holds) × (s′ .hold .0 ≤ 3_600)
+      pub turn-holds : (p : PlacedQuote) → v .change ≡ Change.Quote p → (m : Line) → m ≡ quoted-at s′ p → HoldsIn (m .holds) × (s′ .hold .0 ≤ longest-hold)
       turn-holds p ec m em =
           let named = caught-changes (Change.Quote p) ec .1 in
           let below = named-below (p .quote .id) (view s′ .lines) (p .place) named in

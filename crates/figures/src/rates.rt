@@ -1,6 +1,7 @@
 // The rate at the days left, exponents and factors.
 
 ghost use Prim.Native.Nat.{_≤_};
+ghost use Rattle.method.specs.words.Ranges.{most-days};
 use crate::saying;
 use method::Key;
 use numbers::Billionths;
@@ -12,7 +13,7 @@ const NO_KEY: Key = Key {
 };
 
 fn rate(words: &[u8], days: u32)
-    requires { ⌜ days ≤ 3_650 ⌝ }
+    requires { ⌜ days ≤ most-days ⌝ }
 {
     let mut keys = [NO_KEY; 16];
     keys[0] = Key {

@@ -3,10 +3,11 @@
 ghost use mathlib.Core.Path.{_≡_};
 ghost use Prim.Native.Nat.{_≤_};
 ghost use Rattle.numbers.specs.Ranges.{Within};
+ghost use Rattle.method.specs.words.Ranges.{longest-hold};
 ghost use Rattle.method.specs.told.Questions.{placed};
 ghost use Rattle.method.specs.told.Report.{market-bounds, interest-bounds, hold-report, line-report};
 ghost use Rattle.method.specs.told.Rows.{closing-row};
-ghost use Rattle.method.specs.computed.Rooms.{HoldIn, Room};
+ghost use Rattle.method.specs.computed.Rooms.{largest-reach, HoldIn, Room};
 ghost use Rattle.bounds.specs.Asks.{Drawn};
 use method::BothBounds;
 use method::Closing;
@@ -36,7 +37,7 @@ pub fn placed(k: Limits, price: Steps) -> PlaceAnswer
 }
 
 fn market_bounds(centre: Steps, half: Steps) -> BothBounds
-    requires { ⌜ Within 900_000_000 (centre .0) × Within 900_000_000 (half .0) ⌝ }
+    requires { ⌜ Within largest-reach (centre .0) × Within largest-reach (half .0) ⌝ }
     ensures { λ r. ⌜ r ≡ market-bounds centre half ⌝ }
 {
     let upper = bounds::market_bound(Side::Up, centre, half);
@@ -62,7 +63,7 @@ fn interest_bounds(l: Line) -> BothBounds
 }
 
 fn hold_report(wait: Seconds, h: Hold) -> HoldReport
-    requires { ⌜ (wait .0 ≤ 3_600) × HoldIn h ⌝ }
+    requires { ⌜ (wait .0 ≤ longest-hold) × HoldIn h ⌝ }
     ensures { λ r. ⌜ r ≡ hold-report wait h ⌝ }
 {
     match h {
@@ -76,7 +77,7 @@ fn hold_report(wait: Seconds, h: Hold) -> HoldReport
 
 // All that a gate or an operator asks of a line, with the session's shifts left and its clock.
 pub fn line_report(wait: Seconds, left: u32, clock: Seconds, l: Line) -> Report
-    requires { ⌜ (wait .0 ≤ 3_600) × Room left l ⌝ }
+    requires { ⌜ (wait .0 ≤ longest-hold) × Room left l ⌝ }
     ensures { λ r. ⌜ r ≡ line-report wait left clock l ⌝ }
 {
     let m = l.market;

@@ -4,6 +4,7 @@ use mathlib.Core.Path.{_≡_, sym, ap, subst, _∙_}
 use Prim.Native.Nat.{ℕ, _≤_}
 use denote.Ref.{now}
 use Rattle.method.specs.words.Types.{seconds}
+use Rattle.method.specs.words.Ranges.{longest-hold}
 use Rattle.method.specs.told.Report.{line-report}
 use Rattle.method.specs.computed.Rooms.{Room}
 use Rattle.asking.specs.Names.{Session}
@@ -52,7 +53,7 @@ module _ (c : tie.After-word3) where
 
 line-report-requires : tie.Need-line-report-requires
 line-report-requires c κs =
-    (subst (λ (w : ℕ). w ≤ 3600) (λ j. wait-read c j .0) (start c .pre .0), subst (λ (n : ℕ). Room n (start c .args .l)) (left-read c) (start c .pre .1))
+    (subst (λ (w : ℕ). w ≤ longest-hold) (λ j. wait-read c j .0) (start c .pre .0), subst (λ (n : ℕ). Room n (start c .args .l)) (left-read c) (start c .pre .1))
 
 returns : tie.Need-returns
 returns c =

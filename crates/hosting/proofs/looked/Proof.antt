@@ -8,6 +8,7 @@ use denote.Ref.{now}
 use lib.ListN.{set, take}
 use lib.Seq.{length-take-le}
 use Rattle.method.specs.words.Types.{seconds}
+use Rattle.method.specs.words.Ranges.{longest-hold}
 use Rattle.method.specs.computed.Opening.{ids}
 use Rattle.method.specs.computed.Rooms.{HoldsIn}
 use Rattle.method.specs.computed.Sound.{Distinct}
@@ -123,7 +124,7 @@ until-requires c κs =
     let i = c .before .before .before .before .before .before .before .before .before .loop .i in
     let below : i < session-in (now (c .before .before .before .before .before .before .before .before .before .before .before .before .before .before .args .session)) .count = omega (arith, count-is (now (c .before .before .before .before .before .before .before .before .before .before .before .before .before .before .args .session)), c .before .before .before .before .before .before .before .before .loop-test .taken) in
     let holds = holds-at (now (c .before .before .before .before .before .before .before .before .before .before .before .before .before .before .args .session)) i (s .pre .full) (omega (arith, s .pre .few, below)) ∙ sym (λ j. record { up = c .before .before .before .hold .ensures j; down = c .hold2 .ensures j }) in
-    subst (λ (h : Holds). HoldsIn h × (c .before .before .before .before .before .before .before .before .before .before .word3 .result ≤ 3_600)) holds
+    subst (λ (h : Holds). HoldsIn h × (c .before .before .before .before .before .before .before .before .before .before .word3 .result ≤ longest-hold)) holds
     (row-passes (seconds (c .before .before .before .before .before .before .before .before .before .before .word3 .result)) i (ranged (s .pre)) (hold-is (now (c .before .before .before .before .before .before .before .before .before .before .before .before .before .before .args .session)) ∙ ap seconds (sym (c .before .before .before .before .before .before .before .before .before .before .word3 .ensures))) below)
 
 add-i : tie.Need-add-i Inv-loop μ-loop

@@ -10,6 +10,7 @@ use lib.ListN.{length, getD}
 use Rattle.method.specs.words.Types.{blank, millionths}
 use Rattle.numbers.specs.declared.Millionths.{Millionths}
 use Rattle.numbers.proofs.Deciding.{kept, broken}
+use Rattle.method.specs.words.Ranges.{most-shifts, largest-near-share}
 use Rattle.soundness.proofs.Whole.{Rows}
 use Rattle.corridor.specs.declared.Session.{Session}
 use Rattle.memory.specs.Memory.{session-in}
@@ -93,7 +94,7 @@ line-requires-2 : tie.Need-line-requires-2 Inv-loop μ-loop
 line-requires-2 c κs =
     let a : tie.At-loop Inv-loop μ-loop = c .before .before .before in
     let b = start a .pre in
-    (subst (λ (k : ℕ). k ≤ 16) (left-read a) (b .left), subst (λ (m : Millionths). m .0 ≤ 500_000) (near-read a) (b .near .most))
+    (subst (λ (k : ℕ). k ≤ most-shifts) (left-read a) (b .left), subst (λ (m : Millionths). m .0 ≤ largest-near-share) (near-read a) (b .near .most))
 
 returns : tie.Need-returns Inv-loop μ-loop
 returns c = λ q.
