@@ -19,7 +19,7 @@ pub fn close(s: Session, out: &mut [i64]) -> RowsAnswer
         return RowsAnswer::NoRoom(needed);
     }
     for i in 0..n {
-        let row = report::closing_row(s.lines[i]);
+        let row = line_answers::closing_row(s.lines[i]);
         rows::write(out, 6 * i, row);
     }
     RowsAnswer::Written(needed)

@@ -13,7 +13,7 @@ use Rattle.method.specs.words.Types.{State, blank}
 use Rattle.method.specs.words.Ranges.{longest-hold}
 use Rattle.method.specs.computed.Search.{due-of, ahead, sooner, passed, earliest, in-time, next-due}
 use Rattle.method.specs.computed.Rooms.{HoldsIn}
-use Rattle.holds.proofs.Rooms.{room-passes}
+use Rattle.shifts.proofs.Rooms.{room-passes}
 use Rattle.corridor.specs.Names.{Side, Up, Down, Seconds, Hold, Idle, Since, Holds, Line, Due, Found, Nothing, At}
 use Rattle.corridor.specs.declared.Session.{Session}
 use Rattle.corridor.specs.View.{view, Ranged}

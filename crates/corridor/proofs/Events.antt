@@ -19,7 +19,7 @@ use Rattle.method.proofs.Events.{read-in}
 use Rattle.verdict.specs.declared.Change.{Change}
 use Rattle.verdict.specs.declared.Taken.{Taken}
 use Rattle.pressure.specs.Asks.{Pressed}
-use Rattle.holds.proofs.Rooms.{room-quotes}
+use Rattle.shifts.proofs.Rooms.{room-quotes}
 use Rattle.corridor.specs.Names.{Seconds, Millionths, Line, ShiftLine, Quote, Event, Damaged, Tick, Quoted, EventAnswer, EventReason}
 use Rattle.corridor.specs.declared.Session.{Session}
 use Rattle.corridor.specs.declared.Served.{Served}

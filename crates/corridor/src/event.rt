@@ -45,7 +45,7 @@ impl Session {
                 let near = self.near;
                 let q = p.quote;
                 let place = p.place;
-                let m = holds::shift::quoted_line(near, self.left, q, self.lines[place]);
+                let m = shifts::shift::quoted_line(near, self.left, q, self.lines[place]);
                 self.lines[place] = m;
                 return self;
             }

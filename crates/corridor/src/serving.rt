@@ -23,7 +23,7 @@ impl Session {
         let near = self.near;
         let left = self.left - 1;
         for place in 0..n {
-            let m = holds::shift::shift_line(near, left, side, now, self.lines[place]);
+            let m = shifts::shift::shift_line(near, left, side, now, self.lines[place]);
             self.lines[place] = m;
         }
         self.left = left;

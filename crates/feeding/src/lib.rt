@@ -101,7 +101,7 @@ pub fn feed(mut s: Session, events: &[u8], out: &mut [i64]) -> Fed
                         let near = s.near;
                         let q = p.quote;
                         let place = p.place;
-                        let m = holds::shift::quoted_line(near, s.left, q, s.lines[place]);
+                        let m = shifts::shift::quoted_line(near, s.left, q, s.lines[place]);
                         s.lines[place] = m;
                         let wait = s.hold;
                         let h = m.holds;

@@ -10,7 +10,7 @@ use Rattle.method.specs.told.Refusals.{table-number, table-said}
 use Rattle.corridor.specs.View.{Valid}
 use Rattle.corridor.specs.Handed.{opened-by}
 use Rattle.corridor.proofs.Theorems.{valid-open, refused-opens-none}
-use Rattle.memory.specs.Memory.{session-in}
+use Rattle.host_memory.specs.Memory.{session-in}
 use Rattle.host.specs.Told.{TellsAfterOpen}
 
 at-least-one : (why : TableReason) → 1 ≤ table-number why

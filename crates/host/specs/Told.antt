@@ -6,7 +6,7 @@ use lib.IntN.{ℤ, pos}
 use Rattle.method.specs.told.Refusals.{table-said}
 use Rattle.corridor.specs.View.{Valid}
 use Rattle.corridor.specs.Handed.{opened-by}
-use Rattle.memory.specs.Memory.{session-in}
+use Rattle.host_memory.specs.Memory.{session-in}
 
 -- no refusal of the method has this number
 abbrev pub damaged : ℤ

@@ -15,10 +15,10 @@ ghost use Rattle.rows.specs.Buffer.{written};
 ghost use Rattle.corridor.specs.View.{view, Valid, opened-session};
 ghost use Rattle.feeding.specs.Feeding.{fed, fed-into};
 ghost use Rattle.closing.specs.Closing.{closed, closed-into};
-ghost use Rattle.memory.specs.Memory.{session-in};
-ghost use Rattle.asking.specs.Told.{told-into, place-number, report-into};
-ghost use Rattle.chunks.specs.Answered.{number-in};
-ghost use Rattle.hosting.specs.Told.{line-said, reply-in, shift-rows, Leaves};
+ghost use Rattle.host_memory.specs.Memory.{session-in};
+ghost use Rattle.host_questions.specs.Told.{told-into, place-number, report-into};
+ghost use Rattle.counting.specs.Answered.{number-in};
+ghost use Rattle.host_session.specs.Told.{line-said, reply-in, shift-rows, Leaves};
 ghost use Rattle.host.specs.Told.{damaged, damaged-count, Tells};
 
 // How many numbers a session takes in memory, for a host that holds its own constant to it.
@@ -26,7 +26,7 @@ ghost use Rattle.host.specs.Told.{damaged, damaged-count, Tells};
 pub extern "C" fn sundewcup_session_numbers() -> usize
     ensures { λ r. ⌜ r ≡ 693 ⌝ }
 {
-    memory::numbers()
+    host_memory::numbers()
 }
 
 // Opens a session. After a refused table the memory holds none, and every function that checks refuses it as damaged (`tells-after-open`).
@@ -36,7 +36,7 @@ pub extern "C" fn sundewcup_open(session: &mut [[u64; 21]; 33], table: &[u8], li
     ensures { λ _. ⌜ now (line .exit) ≡ line-said (opened-session (opening (now (table .entry))) .answer) ⌝ }
     ensures { λ _. ⌜ session-in (now (session .exit)) ≡ opened-session (opening (now (table .entry))) .session ⌝ }
 {
-    hosting::open(session, table, line)
+    host_session::open(session, table, line)
 }
 
 // Whether the memory has a session: 0, or the number of a damaged one.
@@ -44,7 +44,7 @@ pub extern "C" fn sundewcup_open(session: &mut [[u64; 21]; 33], table: &[u8], li
 pub extern "C" fn sundewcup_check(session: &[[u64; 21]; 33]) -> i64
     ensures { λ r. ⌜ Tells (now (session .entry)) (r ≡ pos 0) (r ≡ damaged) ⌝ }
 {
-    if intact::sound(session) {
+    if host_intact::sound(session) {
         return 0;
     }
     99
@@ -68,8 +68,8 @@ pub extern "C" fn sundewcup_event(
         (Leaves r (now (session .entry)) (now (session .exit)) (reply-in (now (session .entry)) (now (bytes .entry)) .session))
         (now (session .exit) ≡ now (session .entry)) ⌝ }
 {
-    if intact::sound(session) {
-        return hosting::event(session, bytes, out, made);
+    if host_intact::sound(session) {
+        return host_session::event(session, bytes, out, made);
     }
     *made = 0;
     99
@@ -89,7 +89,7 @@ pub extern "C" fn sundewcup_event_unchecked(
     ensures { λ _. ⌜ now (out .exit) ≡ written (now (out .entry)) 0 (shift-rows (reply-in (now (session .entry)) (now (bytes .entry)))) ⌝ }
     ensures { λ r. ⌜ Leaves r (now (session .entry)) (now (session .exit)) (reply-in (now (session .entry)) (now (bytes .entry)) .session) ⌝ }
 {
-    hosting::event(session, bytes, out, made)
+    host_session::event(session, bytes, out, made)
 }
 
 #[no_mangle]
@@ -107,8 +107,8 @@ pub extern "C" fn sundewcup_feed(
         (session-in (now (session .exit)) ≡ fed (session-in (now (session .entry))) (length (now (out .entry))) (now (events .entry)) .session)
         (now (session .exit) ≡ now (session .entry)) ⌝ }
 {
-    if intact::sound(session) {
-        return hosting::feed(session, events, out);
+    if host_intact::sound(session) {
+        return host_session::feed(session, events, out);
     }
     18446744073709551615
 }
@@ -120,8 +120,8 @@ pub extern "C" fn sundewcup_close(session: &[[u64; 21]; 33], out: &mut [i64]) ->
     ensures { λ _. ⌜ Tells (now (session .entry))
         (now (out .exit) ≡ closed-into (session-in (now (session .entry))) (now (out .entry))) (now (out .exit) ≡ now (out .entry)) ⌝ }
 {
-    if intact::sound(session) {
-        return hosting::close(session, out);
+    if host_intact::sound(session) {
+        return host_session::close(session, out);
     }
     18446744073709551615
 }
@@ -134,8 +134,8 @@ pub extern "C" fn sundewcup_limits(session: &[[u64; 21]; 33], id: u32, out: &mut
         (now (out .exit) ≡ told-into (now (out .entry)) (limits-said (limits id (view (session-in (now (session .entry)))))))
         (now (out .exit) ≡ now (out .entry)) ⌝ }
 {
-    if intact::sound(session) {
-        return asking::limits(session, id, out);
+    if host_intact::sound(session) {
+        return host_questions::limits(session, id, out);
     }
     99
 }
@@ -152,8 +152,8 @@ pub extern "C" fn sundewcup_report(
         (now (out .exit) ≡ report-into (now (out .entry)) (report id (view (session-in (now (session .entry))))))
         (now (out .exit) ≡ now (out .entry)) ⌝ }
 {
-    if intact::sound(session) {
-        return asking::report(session, id, out);
+    if host_intact::sound(session) {
+        return host_questions::report(session, id, out);
     }
     99
 }
@@ -163,8 +163,8 @@ pub extern "C" fn sundewcup_place(session: &[[u64; 21]; 33], id: u32, price: i64
     ensures { λ r. ⌜ Tells (now (session .entry))
         (r ≡ place-number (place id (steps price) (view (session-in (now (session .entry)))))) (r ≡ damaged) ⌝ }
 {
-    if intact::sound(session) {
-        return asking::place(session, id, price);
+    if host_intact::sound(session) {
+        return host_questions::place(session, id, price);
     }
     99
 }
@@ -175,5 +175,5 @@ pub extern "C" fn sundewcup_place_unchecked(session: &[[u64; 21]; 33], id: u32, 
     requires { ⌜ Valid (session-in (now session)) ⌝ }
     ensures { λ r. ⌜ r ≡ place-number (place id (steps price) (view (session-in (now (session .entry))))) ⌝ }
 {
-    asking::place(session, id, price)
+    host_questions::place(session, id, price)
 }

@@ -59,7 +59,7 @@ pub fn place(s: Session, id: u32, price: Steps) -> PlaceAnswer
         Sought::Nowhere => PlaceAnswer::Refused(EventReason::UnknownId),
         Sought::At(l) => {
             let k = l.limits;
-            report::placed(k, price)
+            line_answers::placed(k, price)
         }
     }
 }
@@ -74,7 +74,7 @@ pub fn report(s: Session, id: u32) -> ReportAnswer
         Sought::At(l) => {
             let wait = s.hold;
             let clock = s.clock;
-            ReportAnswer::Standing(report::line_report(wait, s.left, clock, l))
+            ReportAnswer::Standing(line_answers::line_report(wait, s.left, clock, l))
         }
     }
 }

@@ -24,7 +24,7 @@ pub(crate) fn chunk(s: Session, events: &[u8], numbers: &mut [i64], buffer: &mut
     ensures { λ r. ⌜ r .session ≡ left-by s (now (events .entry)) ⌝ }
     ensures { λ r. ⌜ Begins (now (buffer .exit)) (r .size) (told-text s (now (events .entry))) ⌝ }
 {
-    let a = chunks::answered(s, events, numbers);
+    let a = counting::answered(s, events, numbers);
     let count = a.count;
     let size = text::lines(&numbers[..count], buffer);
     let session = a.session;
@@ -39,7 +39,7 @@ pub(crate) fn closing(s: Session, numbers: &mut [i64], buffer: &mut [u8]) -> usi
     requires { ⌜ Valid s × (192 ≤ length (now numbers)) × (3840 ≤ length (now buffer)) ⌝ }
     ensures { λ r. ⌜ Begins (now (buffer .exit)) r (closing-text s) ⌝ }
 {
-    let count = chunks::closed(s, numbers);
+    let count = counting::closed(s, numbers);
     text::lines(&numbers[..count], buffer)
 }
 

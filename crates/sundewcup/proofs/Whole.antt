@@ -30,9 +30,9 @@ use Rattle.closing.specs.Closing.{closing-numbers}
 use Rattle.corridor.proofs.Views.{view-put}
 use Rattle.corridor.proofs.Theorems.{valid-opened}
 use Rattle.feeding.proofs.Chunks.{told-fits, valid-left}
-use Rattle.chunks.specs.declared.Told.{Told}
-use Rattle.chunks.specs.Answered.{answered}
-use Rattle.chunks.proofs.Answering.{closing-few}
+use Rattle.counting.specs.declared.Told.{Told}
+use Rattle.counting.specs.Answered.{answered}
+use Rattle.counting.proofs.Answering.{closing-few}
 use Rattle.sundewcup.specs.Running.{room, rows-told, ran, ran-into}
 
 -- ---- where the room is not there

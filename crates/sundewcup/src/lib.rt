@@ -2,7 +2,7 @@
 
 ghost use mathlib.Core.Path.{_≡_};
 ghost use lib.ListN.{length};
-ghost use Rattle.chunks.specs.Answered.{number-in};
+ghost use Rattle.counting.specs.Answered.{number-in};
 ghost use Rattle.sundewcup.specs.Running.{ran, ran-into};
 use method::Row;
 use method::TableAnswer;
@@ -27,10 +27,10 @@ pub fn run(table: &[u8], events: &[u8], out: &mut [i64]) -> RowsAnswer
         }
         TableAnswer::Opened => {
             let session = o.session;
-            let a = chunks::answered(session, events, out);
+            let a = counting::answered(session, events, out);
             let at = a.count;
             let last = a.session;
-            let more = chunks::closed(last, &mut out[at..]);
+            let more = counting::closed(last, &mut out[at..]);
             RowsAnswer::Written(at + more)
         }
     }
@@ -43,5 +43,5 @@ pub extern "C" fn sundewcup_run(table: &[u8], events: &[u8], out: &mut [i64]) ->
     ensures { λ r. ⌜ r ≡ number-in (ran (length (now (out .entry))) (now (table .entry)) (now (events .entry))) ⌝ }
     ensures { λ _. ⌜ now (out .exit) ≡ ran-into (now (out .entry)) (now (table .entry)) (now (events .entry)) ⌝ }
 {
-    chunks::number_in(run(table, events, out))
+    counting::number_in(run(table, events, out))
 }

@@ -12,7 +12,7 @@ use Rattle.method.proofs.Growth.{factors-in}
 use Rattle.method.proofs.Opening.{market-in}
 use Rattle.method.proofs.Rooms.{span-within}
 use Rattle.bounds.specs.Asks.{Drawn}
-use Rattle.line.specs.Asks.{Spanned}
+use Rattle.table_line.specs.Asks.{Spanned}
 use Rattle.table.specs.Names.{Millionths, Billionths, Key, Contract, Terms, Market}
 
 -- the exponent y, from the rate r

@@ -97,7 +97,7 @@ fn open_line(
     requires { ⌜ Ready shift keys n × (count ≤ most-contracts) ⌝ }
     ensures { λ r. ⌜ r ≡ open-line shift (take n keys) (take count lines) c ⌝ }
 {
-    let good_fields = ranges::fields_good(c);
+    let good_fields = table_ranges::fields_good(c);
     let good_id = id_good(lines, count, c.id);
     if !good_fields {
         return LineAnswer::Refused(TableReason::Field);
@@ -110,10 +110,10 @@ fn open_line(
         return LineAnswer::Refused(TableReason::Exponent);
     }
     let width = c.width;
-    line::opening::opened_with(
+    table_line::opening::opened_with(
         width,
-        line::opening::terms(shift, y, c),
-        line::opening::market(c),
+        table_line::opening::terms(shift, y, c),
+        table_line::opening::market(c),
     )
 }
 
@@ -157,7 +157,7 @@ fn open_lines(bytes: &[u8], h: Header, keys: [Key; 16]) -> Opened
     let mut lines = [BLANK; 32];
     let mut i: usize = 0;
     while i < count {
-        let c = records::contract(bytes, start + 40 * i);
+        let c = table_records::contract(bytes, start + 40 * i);
         match open_line(shift, keys, n, lines, i, c) {
             LineAnswer::Refused(why) => {
                 return refused(why, (i + 1) as u32);
@@ -187,8 +187,8 @@ pub fn ends_at(bytes: &[u8]) -> usize
     requires { ⌜ 40 ≤ length (now bytes) ⌝ }
     ensures { λ r. ⌜ r ≡ table-length (header-of (now (bytes .entry))) ⌝ }
 {
-    let h = records::header(bytes);
-    ranges::table_length(h)
+    let h = table_records::header(bytes);
+    table_ranges::table_length(h)
 }
 
 // Opens a morning table. Any bytes of any length get an answer, and nothing is worked out from a count before it is checked.
@@ -199,19 +199,19 @@ pub fn open(bytes: &[u8]) -> Opened
     if size < 40 {
         return refused(TableReason::Length, 0);
     }
-    let h = records::header(bytes);
+    let h = table_records::header(bytes);
     if h.edition != 1 {
         return refused(TableReason::Edition, 0);
     }
-    if !ranges::header_good(h) {
+    if !table_ranges::header_good(h) {
         return refused(TableReason::Header, 0);
     }
-    if !ranges::laid_out(h, size) {
+    if !table_ranges::laid_out(h, size) {
         return refused(TableReason::Length, 0);
     }
     let n = h.keys as usize;
-    let ks = records::keys(bytes, n);
-    let bad = ranges::first_bad_key(ks, n);
+    let ks = table_records::keys(bytes, n);
+    let bad = table_ranges::first_bad_key(ks, n);
     if bad != 0 {
         return refused(TableReason::Key, bad);
     }

@@ -16,7 +16,7 @@ use Rattle.rows.proofs.Buffer.{nothing-written, row-on, long-on}
 use Rattle.closing.specs.Closing.{closed, closed-into}
 use Rattle.corridor.proofs.Views.{ranged}
 use Rattle.corridor.proofs.Rows.{room-at}
-use Rattle.report.proofs.Rooms.{room-drawn}
+use Rattle.line_answers.proofs.Rooms.{room-drawn}
 use Rattle.closing.proofs.close.Statement.{statement}
 use Rattle.closing.proofs.close.Tie as tie
 

@@ -8,8 +8,8 @@ use Rattle.method.specs.words.Types.{steps}
 use Rattle.method.specs.told.Questions.{place}
 use Rattle.numbers.proofs.Deciding.{granted}
 use Rattle.corridor.specs.View.{view}
-use Rattle.memory.specs.Memory.{session-in}
-use Rattle.asking.specs.Told.{place-number}
+use Rattle.host_memory.specs.Memory.{session-in}
+use Rattle.host_questions.specs.Told.{place-number}
 use Rattle.host.proofs.Refusing.{tells, denies}
 use Rattle.host.proofs.sundewcup_place.Statement.{statement}
 use Rattle.host.proofs.sundewcup_place.Tie as tie

@@ -7,7 +7,7 @@ use lib.ListN.{getD}
 use Rattle.method.specs.words.Types.{blank}
 use Rattle.method.specs.computed.Shift.{shift-line}
 use Rattle.method.specs.computed.Rooms.{Room}
-use Rattle.holds.proofs.Rooms.{room-shifts}
+use Rattle.shifts.proofs.Rooms.{room-shifts}
 use Rattle.corridor.proofs.Rows.{changed, changed-at, room-at}
 use Rattle.corridor.proofs.Shifting.{with-rows, change-turn, all-shifted}
 use Rattle.corridor.proofs.Session.shifted.Statement.{statement}

@@ -8,8 +8,8 @@ use Rattle.method.specs.told.Program.{events-of}
 use Rattle.method.specs.computed.Search.{run}
 use Rattle.corridor.specs.View.{view}
 use Rattle.feeding.specs.Feeding.{told}
-use Rattle.chunks.specs.declared.Told.{Told}
-use Rattle.chunks.proofs.Answering.{count-fits}
+use Rattle.counting.specs.declared.Told.{Told}
+use Rattle.counting.proofs.Answering.{count-fits}
 use Rattle.session.proofs.Texts.{front, enough, counted, said}
 use Rattle.session.proofs.answers.chunk.Statement.{statement}
 use Rattle.session.proofs.answers.chunk.Tie as tie

@@ -6,7 +6,7 @@ use denote.Ref.{now}
 use Rattle.method.specs.told.Rows.{closing-row}
 use Rattle.corridor.specs.View.{view}
 use Rattle.closing.specs.Closing.{closing-numbers}
-use Rattle.chunks.proofs.Answering.{closing-few}
+use Rattle.counting.proofs.Answering.{closing-few}
 use Rattle.session.proofs.Texts.{front, enough, counted, said}
 use Rattle.session.proofs.answers.closing.Statement.{statement}
 use Rattle.session.proofs.answers.closing.Tie as tie

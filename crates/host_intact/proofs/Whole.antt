@@ -1,0 +1,54 @@
+-- The tests together say what every session has. Assumes nothing.
+use mathlib.Core.Path.{_≡_, subst, _∙_}
+use mathlib.Core.List.{List}
+use Prim.Native.Nat.{ℕ}
+use native.Mathlib.Omega.{arith}
+use lib.ListN.{length, take, length-map}
+use lib.Seq.{length-take-le}
+use Rattle.numbers.specs.declared.Millionths.{Millionths}
+use Rattle.method.specs.computed.Opening.{ids}
+use Rattle.method.specs.computed.Rooms.{Room}
+use Rattle.method.specs.computed.Sound.{Exact, Distinct}
+use Rattle.method.specs.declared.Line.{Line}
+use Rattle.method.specs.declared.Found.the-variants.{Nothing}
+use Rattle.host_line.proofs.Whole.{rows-all, all-rows, none-due-done, done-none-due}
+use Rattle.corridor.specs.declared.Session.{Session}
+use Rattle.corridor.specs.View.{view, Valid}
+use Rattle.host_row.specs.Packed.{line-in}
+use Rattle.host_memory.specs.Memory.{session-in}
+use Rattle.host_intact.specs.Tests.{BesideIn, LinesIn, due-by}
+
+pub full-in : (rows : List (List ℕ)) → length rows ≡ 33 → length (session-in rows .lines) ≡ 32
+unfolding session-in
+full-in rows h = length-map (take 32 rows) line-in ∙ length-take-le 32 rows (omega arith)
+
+-- what is decided of a line
+abbrev pub Fit : Millionths → ℕ → Line → Type 0
+Fit near left l = Room left l × Exact near left l
+
+pub carried : {near near′ : Millionths} {left left′ : ℕ} {l l′ : Line} → near ≡ near′ → left ≡ left′ → l ≡ l′ → Fit near left l → Fit near′ left′ l′
+carried {near} {near′} {left} {left′} {l} {l′} e f g p =
+    subst (λ (x : ℕ). Fit near′ x l′) f (subst (λ (x : Millionths). Fit x left l′) e (subst (Fit near left) g p))
+
+module _ {s : Session} where
+  pub valid-so : length (s .lines) ≡ 32 → BesideIn s → LinesIn s → Distinct (ids (view s .lines)) × (due-by (view s) ≡ Nothing) → Valid s
+  valid-so full b lines (distinct, none) =
+      let all = rows-all (s .near) (s .left) (s .lines) (s .count) (omega (arith, b .few)) lines in
+      record {
+        full = full;
+        few = b .few;
+        sane = record { hold = b .hold; end = b .end; clock = b .clock; left = b .left; near = b .near; rooms = all .0 };
+        sound = record { waits = b .hold .least; exact = all .1; served = none-due-done (s .clock) (view s) (all .1) none };
+        distinct = distinct;
+      }
+
+  pub valid-beside : Valid s → BesideIn s
+  valid-beside v =
+      let r = v .sane in
+      record { few = v .few; hold = r .hold; end = r .end; clock = r .clock; left = r .left; near = r .near }
+
+  pub valid-lines : Valid s → LinesIn s
+  valid-lines v = all-rows (s .near) (s .left) (s .lines) (s .count) (omega (arith, v .few, v .full)) (v .sane .rooms) (v .sound .exact)
+
+  pub valid-together : Valid s → Distinct (ids (view s .lines)) × (due-by (view s) ≡ Nothing)
+  valid-together v = (v .distinct, done-none-due (s .clock) (view s) (v .sound .served))

@@ -1,0 +1,97 @@
+-- One place of a session in memory: what is read there, a line that is written, and the clock that is set. Assumes nothing.
+use mathlib.Core.Path.{_≡_, refl, ap, _∙_}
+use mathlib.Core.List.{List, [], _∷_, map}
+use Prim.Native.Nat.{ℕ, zero, suc, _<_}
+use native.Mathlib.Omega.{arith}
+use lib.ListN.{length, getD, set, take, List·getD-map}
+use lib.Seq.{getD-take, take-set-le, take-set-lt, getD-set-same, getD-set-other}
+use Rattle.method.specs.words.Types.{blank, seconds, millionths}
+use Rattle.host_row.specs.Packed.{at, word-in, hold-in, line-in}
+use Rattle.host_memory.specs.Names.{Seconds, Line, Session}
+use Rattle.host_memory.specs.Memory.{no-row, head-of, session-in, with-line, with-clock}
+use Rattle.host_memory.proofs.AllRows.{session-of}
+
+-- ---- beside the lines
+pub count-is : (rows : List (List ℕ)) → at (head-of rows) 0 ≡ session-in rows .count
+unfolding session-in
+count-is rows = refl
+
+module _ (rows : List (List ℕ)) where
+  pub clock-is : session-in rows .clock ≡ seconds (word-in (at (head-of rows) 1))
+  unfolding session-in
+  clock-is = refl
+
+  pub end-is : session-in rows .end ≡ seconds (word-in (at (head-of rows) 2))
+  unfolding session-in
+  end-is = refl
+
+  pub hold-is : session-in rows .hold ≡ seconds (word-in (at (head-of rows) 3))
+  unfolding session-in
+  hold-is = refl
+
+  pub left-is : session-in rows .left ≡ word-in (at (head-of rows) 4)
+  unfolding session-in
+  left-is = refl
+
+  pub near-is : session-in rows .near ≡ millionths (word-in (at (head-of rows) 5))
+  unfolding session-in
+  near-is = refl
+
+-- ---- a line is read
+-- what is read within a list does not hang on what would stand past its end
+within : {A : Type 0} (xs : List A) (i : ℕ) (d e : A) → i < length xs → getD xs i d ≡ getD xs i e
+within [] i d e h = absurd (never i h)
+  where
+    never : (n : ℕ) → n < 0 → ⊥
+    never n h = omega arith
+within (x ∷ xs) zero d e h = refl
+within (x ∷ xs) (suc i) d e h = within xs i d e (omega arith)
+
+pub line-at : (rows : List (List ℕ)) (i : ℕ) → length (session-in rows .lines) ≡ 32 → i < 32 → getD (session-in rows .lines) i blank ≡ line-in (getD rows i no-row)
+unfolding session-in
+line-at rows i n h =
+    within (map line-in (take 32 rows)) i blank (line-in no-row) (omega (arith, n))
+    ∙ List·getD-map line-in (take 32 rows) i no-row ∙ ap line-in (getD-take 32 rows i no-row h)
+
+-- of a row, only what a walk over all of them wants
+module _ (rows : List (List ℕ)) (i : ℕ) (n : length (session-in rows .lines) ≡ 32) (h : i < 32) where
+  pub id-at : getD (session-in rows .lines) i blank .terms .id ≡ word-in (at (getD rows i no-row) 0)
+  unfolding line-in
+  id-at = ap (λ (l : Line). l .terms .id) (line-at rows i n h)
+
+  pub holds-at : getD (session-in rows .lines) i blank .holds
+      ≡ record {
+        up = hold-in (at (getD rows i no-row) 17) (at (getD rows i no-row) 18);
+        down = hold-in (at (getD rows i no-row) 19) (at (getD rows i no-row) 20);
+      }
+  unfolding line-in
+  holds-at = ap (λ (l : Line). l .holds) (line-at rows i n h)
+
+-- ---- a line is written
+map-set : {A B : Type 0} (f : A → B) (xs : List A) (i : ℕ) (x : A) → map f (set xs i x) ≡ set (map f xs) i (f x)
+map-set f [] i x = refl
+map-set f (y ∷ xs) zero x = refl
+map-set f (y ∷ xs) (suc i) x = ap (λ (zs : List _). f y ∷ zs) (map-set f xs i x)
+
+abbrev under : List Line → List ℕ → Session
+under ls top = session-of ls (at top 0) (word-in (at top 1)) (word-in (at top 2)) (word-in (at top 3)) (word-in (at top 4)) (word-in (at top 5))
+
+pub line-stored : (rows : List (List ℕ)) (p : ℕ) (row : List ℕ) (m : Line) → p < 32 → line-in row ≡ m → session-in (set rows p row) ≡ with-line (session-in rows) p m
+unfolding session-in
+line-stored rows p row m h e =
+    ap (λ (ls : List Line). under ls (head-of (set rows p row))) (ap (map line-in) (take-set-lt 32 rows p row h) ∙ map-set line-in (take 32 rows) p row)
+    ∙ ap (λ (l : Line). under (set (map line-in (take 32 rows)) p l) (head-of (set rows p row))) e
+    ∙ ap (under (set (map line-in (take 32 rows)) p m)) (getD-set-other rows p 32 row no-row other)
+  where
+    other : 32 ≡ p → ⊥
+    other q = omega arith
+
+-- ---- the clock is set
+pub clock-stored : (rows : List (List ℕ)) (row : List ℕ) (t : Seconds) → length rows ≡ 33 → at row 0 ≡ at (head-of rows) 0 → word-in (at row 1) ≡ t .0
+    → at row 2 ≡ at (head-of rows) 2 → at row 3 ≡ at (head-of rows) 3 → at row 4 ≡ at (head-of rows) 4 → at row 5 ≡ at (head-of rows) 5
+    → session-in (set rows 32 row) ≡ with-clock (session-in rows) t
+unfolding session-in
+clock-stored rows row t long e₀ e₁ e₂ e₃ e₄ e₅ =
+    ap (λ (ls : List Line). under ls (head-of (set rows 32 row))) (ap (map line-in) (take-set-le 32 rows 32 row (omega arith)))
+    ∙ ap (under (map line-in (take 32 rows))) (getD-set-same rows 32 row no-row (omega arith))
+    ∙ (λ j. session-of (map line-in (take 32 rows)) (e₀ j) (e₁ j) (word-in (e₂ j)) (word-in (e₃ j)) (word-in (e₄ j)) (word-in (e₅ j)))

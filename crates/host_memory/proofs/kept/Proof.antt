@@ -1,0 +1,89 @@
+-- `host_memory::kept` meets its contract. Assumes nothing.
+use borrow.Author.Needs.{needs}
+use mathlib.Core.Path.{_≡_, refl, _∙_}
+use mathlib.Core.List.{map}
+use Prim.Native.Nat.{_-_, _≤_}
+use native.Mathlib.Omega.{arith}
+use lib.ListN.{length, take, length-set}
+use Rattle.numbers.proofs.Arrays.{full}
+use Rattle.method.specs.words.Types.{blank}
+use Rattle.host_row.specs.Packed.{line-in}
+use Rattle.host_memory.proofs.AllRows.{store-turn, stored}
+use Rattle.host_memory.proofs.kept.Statement.{statement}
+use Rattle.host_memory.proofs.kept.Tie as tie
+
+abbrev Inv-loop : tie.InvT-loop
+Inv-loop memory₀ s i₀ memory i = (i ≤ 32) × (length memory ≡ 33) × (length (s .lines) ≡ 32) × (map line-in (take i memory) ≡ take i (s .lines))
+
+abbrev μ-loop : tie.MeasureT-loop
+μ-loop memory₀ s i₀ memory i = 32 - i
+
+rows-requires : tie.Need-rows-requires Inv-loop μ-loop
+rows-requires c κs = search needs
+
+loop-holds : tie.Need-loop-holds Inv-loop μ-loop
+loop-holds c = (omega arith, c .rows .ensures .1, search (needs, full), refl)
+
+mul-l : tie.Need-mul-l Inv-loop μ-loop
+mul-l c = omega arith
+
+element-copy-out-l : tie.Need-element-copy-out-l Inv-loop μ-loop
+element-copy-out-l c = omega (arith, c .before .loop .inv .2)
+
+row-requires : tie.Need-row-requires Inv-loop μ-loop
+row-requires c κs = search needs
+
+mul-t9 : tie.Need-mul-t9 Inv-loop μ-loop
+mul-t9 c = omega arith
+
+element-set-from-memory : tie.Need-element-set-from-memory Inv-loop μ-loop
+element-set-from-memory c = omega arith
+
+add-i : tie.Need-add-i Inv-loop μ-loop
+add-i c = omega arith
+
+loop-less : tie.Need-loop-less Inv-loop μ-loop
+loop-less c = omega arith
+
+loop-again : tie.Need-loop-again Inv-loop μ-loop
+loop-again c =
+    let at = c .before .before .before .loop in
+    let s = c .before .before .before .before .before .before .args .t2 in (
+      omega arith,
+      length-set (at .memory) (at .i) _ ∙ at .inv .1,
+      at .inv .2,
+      store-turn line-in (at .memory) (s .lines) (at .i) (omega (arith, at .inv .1)) (omega (arith, at .inv .2)) _ blank (c .row .ensures) (at .inv .3),
+    )
+
+head-requires : tie.Need-head-requires Inv-loop μ-loop
+head-requires c κs = search needs
+
+element-set-from-memory-2 : tie.Need-element-set-from-memory-2 Inv-loop μ-loop
+element-set-from-memory-2 c = search needs
+
+returns : tie.Need-returns Inv-loop μ-loop
+returns c =
+    let at = c .before .before .loop in
+    let h = c .head .ensures in
+    stored (at .memory) (c .before .before .before .before .before .args .t2) _ (at .i) (at .inv .1) (at .inv .2) (omega arith) (at .inv .3)
+    (record { count = h .0; clock = h .1; end = h .2; hold = h .3; left = h .4; near = h .5 })
+
+pub kept-spec : {M : Type 1} → statement M
+kept-spec =
+    tie.close
+    (tie.spec
+    Inv-loop
+    μ-loop
+    rows-requires
+    loop-holds
+    mul-l
+    element-copy-out-l
+    row-requires
+    mul-t9
+    element-set-from-memory
+    add-i
+    loop-less
+    loop-again
+    head-requires
+    element-set-from-memory-2
+    returns)

@@ -1,0 +1,116 @@
+// Questions on one line of a session in a host's memory, asked where the session lies: its limits, the place of an order price, and all
+// that stands on it.
+
+ghost use mathlib.Core.Path.{_≡_};
+ghost use Prim.Native.Nat.{_≤_};
+ghost use lib.IntN.{pos};
+ghost use Rattle.method.specs.words.Types.{steps};
+ghost use Rattle.method.specs.words.Ranges.{longest-hold};
+ghost use Rattle.method.specs.told.Refusals.{limits-said, report-said};
+ghost use Rattle.method.specs.told.Questions.{limits, place};
+ghost use Rattle.method.specs.told.Report.{line-report, report};
+ghost use Rattle.method.specs.computed.Rooms.{Room};
+ghost use Rattle.corridor.specs.View.{view, Valid};
+ghost use Rattle.questions.specs.Asked.{sought};
+ghost use Rattle.host_memory.specs.Memory.{session-in};
+ghost use Rattle.host_questions.specs.Told.{told-into, place-number, report-into};
+use host_row::reading;
+use method::EventReason;
+use method::Line;
+use method::PlaceAnswer;
+use method::Report;
+use method::Row;
+use numbers::Seconds;
+use numbers::Steps;
+use questions::Sought;
+
+// The line that has the id.
+fn found(session: &[[u64; 21]; 33], id: u32) -> Sought
+    requires { ⌜ Valid (session-in (now session)) ⌝ }
+    ensures { λ r. ⌜ r ≡ sought id (view (session-in (now (session .entry)))) ⌝ }
+{
+    let head = session[32];
+    let n = head[0] as usize;
+    let mut i: usize = 0;
+    while i < n {
+        let row = session[i];
+        let l = reading::line(row);
+        if l.terms.id == id {
+            return Sought::At(l);
+        }
+        i = i + 1;
+    }
+    Sought::Nowhere
+}
+
+// The lower and the upper limit, and whether the lower one is frozen.
+pub fn limits(session: &[[u64; 21]; 33], id: u32, out: &mut [i64; 3]) -> i64
+    requires { ⌜ Valid (session-in (now session)) ⌝ }
+    ensures { λ r. ⌜ r ≡ pos (limits-said (limits id (view (session-in (now (session .entry))))) .number) ⌝ }
+    ensures { λ _. ⌜ now (out .exit) ≡ told-into (now (out .entry)) (limits-said (limits id (view (session-in (now (session .entry)))))) ⌝ }
+{
+    match found(session, id) {
+        Sought::Nowhere => 13,
+        Sought::At(l) => {
+            let k = l.limits;
+            *out = [k.lower.0, k.upper.0, host_report::mark_number(k.frozen)];
+            0
+        }
+    }
+}
+
+fn place_number(answer: PlaceAnswer) -> i64
+    ensures { λ r. ⌜ r ≡ place-number answer ⌝ }
+{
+    match answer {
+        PlaceAnswer::Below => -1,
+        PlaceAnswer::Inside => 0,
+        PlaceAnswer::Above => 1,
+        PlaceAnswer::Refused(why) => {
+            let row = rows::row_numbers(Row::RefusedEvent(why));
+            row[1]
+        }
+    }
+}
+
+// Where an order price lies: below -1, inside 0, above 1; or the refusal's number.
+pub fn place(session: &[[u64; 21]; 33], id: u32, price: i64) -> i64
+    requires { ⌜ Valid (session-in (now session)) ⌝ }
+    ensures { λ r. ⌜ r ≡ place-number (place id (steps price) (view (session-in (now (session .entry))))) ⌝ }
+{
+    match found(session, id) {
+        Sought::Nowhere => place_number(PlaceAnswer::Refused(EventReason::UnknownId)),
+        Sought::At(l) => {
+            let k = l.limits;
+            place_number(line_answers::placed(k, Steps(price)))
+        }
+    }
+}
+
+// What stands on a line, with the hold seconds, the shifts left and the clock of its session.
+fn reported(session: &[[u64; 21]; 33], l: Line) -> Report
+    requires { ⌜ (session-in (now session) .hold .0 ≤ longest-hold) × Room (session-in (now session) .left) l ⌝ }
+    ensures { λ r. ⌜ r ≡ line-report (session-in (now (session .entry)) .hold) (session-in (now (session .entry)) .left)
+        (session-in (now (session .entry)) .clock) l ⌝ }
+{
+    let head = session[32];
+    let clock = Seconds(reading::word(head[1]));
+    let wait = Seconds(reading::word(head[3]));
+    line_answers::line_report(wait, reading::word(head[4]), clock, l)
+}
+
+// All that stands on a line.
+pub fn report(session: &[[u64; 21]; 33], id: u32, out: &mut [[i64; 6]; 4]) -> i64
+    requires { ⌜ Valid (session-in (now session)) ⌝ }
+    ensures { λ r. ⌜ r ≡ pos (report-said (report id (view (session-in (now (session .entry))))) .number) ⌝ }
+    ensures { λ _. ⌜ now (out .exit) ≡ report-into (now (out .entry)) (report id (view (session-in (now (session .entry))))) ⌝ }
+{
+    match found(session, id) {
+        Sought::Nowhere => 13,
+        Sought::At(l) => {
+            let r = reported(session, l);
+            *out = host_report::report_rows(r);
+            0
+        }
+    }
+}

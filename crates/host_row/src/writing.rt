@@ -1,0 +1,115 @@
+// The numbers that say it: a row from which its line is read again. Which of several numbers stand for one thing, no contract says.
+
+ghost use mathlib.Core.Path.{_≡_};
+ghost use Rattle.host_row.specs.Packed.{word-in, mark-in, signed-in, price-in, hold-in, line-in};
+use method::Hold;
+use method::Line;
+use method::Price;
+use numbers::Steps;
+
+pub fn word_number(n: u32) -> u64
+    ensures { λ r. ⌜ word-in r ≡ n ⌝ }
+{
+    n as u64
+}
+
+fn mark_number(b: bool) -> u64
+    ensures { λ r. ⌜ mark-in r ≡ b ⌝ }
+{
+    if b { 1 } else { 0 }
+}
+
+fn signed_number(z: Steps) -> u64
+    ensures { λ r. ⌜ signed-in r ≡ z .0 ⌝ }
+{
+    if z.0 < 0 {
+        let m = (-1 - z.0) as u64;
+        return 2 * m + 1;
+    }
+    2 * (z.0 as u64)
+}
+
+// The two numbers of a price or a hold.
+pub struct Two {
+    pub there: u64,
+    pub number: u64,
+}
+
+fn price_numbers(p: Price) -> Two
+    ensures { λ r. ⌜ price-in (r .there) (r .number) ≡ p ⌝ }
+{
+    match p {
+        Price::Absent => Two {
+            there: 0,
+            number: 0,
+        },
+        Price::Given(z) => Two {
+            there: 1,
+            number: signed_number(z),
+        },
+    }
+}
+
+fn hold_numbers(h: Hold) -> Two
+    ensures { λ r. ⌜ hold-in (r .there) (r .number) ≡ h ⌝ }
+{
+    match h {
+        Hold::Idle => Two {
+            there: 0,
+            number: 0,
+        },
+        Hold::Since(start) => Two {
+            there: 1,
+            number: word_number(start.0),
+        },
+    }
+}
+
+// A row that has the line.
+pub fn row(l: Line) -> [u64; 21]
+    ensures { λ r. ⌜ line-in r ≡ l ⌝ }
+{
+    let terms = l.terms;
+    let halfmove = terms.halfmove;
+    let market = l.market;
+    let centre = market.centre;
+    let half1 = market.half1;
+    let half2 = market.half2;
+    let half3 = market.half3;
+    let limits = l.limits;
+    let upper = limits.upper;
+    let lower = limits.lower;
+    let book = l.book;
+    let bid = book.bid;
+    let ask = book.ask;
+    let holds = l.holds;
+    let up = holds.up;
+    let down = holds.down;
+    let b = price_numbers(bid);
+    let a = price_numbers(ask);
+    let u = hold_numbers(up);
+    let d = hold_numbers(down);
+    [
+        word_number(terms.id),
+        word_number(terms.flags),
+        mark_number(terms.below),
+        signed_number(halfmove),
+        terms.factors.up.0,
+        terms.factors.down.0,
+        signed_number(centre),
+        signed_number(half1),
+        signed_number(half2),
+        signed_number(half3),
+        signed_number(upper),
+        signed_number(lower),
+        mark_number(limits.frozen),
+        b.there,
+        b.number,
+        a.there,
+        a.number,
+        u.there,
+        u.number,
+        d.there,
+        d.number,
+    ]
+}

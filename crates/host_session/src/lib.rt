@@ -1,0 +1,204 @@
+// What opens a session in a host's memory and what changes it there: a table, one event, a buffer of events; and its closing rows.
+
+ghost use mathlib.Core.Path.{_≡_};
+ghost use lib.IntN.{pos};
+ghost use Prim.Native.Nat.{_<_};
+ghost use lib.ListN.{length, getD};
+ghost use Rattle.method.specs.words.Types.{blank};
+ghost use Rattle.method.specs.told.Refusals.{table-said, event-said};
+ghost use Rattle.method.specs.computed.Opening.{ids};
+ghost use Rattle.method.specs.computed.Table.{opening};
+ghost use Rattle.method.specs.computed.Event.{with-book, quoted-line};
+ghost use Rattle.pressure.specs.Asks.{Pressed};
+ghost use Rattle.verdict.specs.Screened.{screened};
+ghost use Rattle.rows.specs.Buffer.{written};
+ghost use Rattle.corridor.specs.View.{view, Valid, opened-session};
+ghost use Rattle.feeding.specs.Quiet.{quiet-until};
+ghost use Rattle.feeding.specs.Feeding.{fed, fed-into};
+ghost use Rattle.closing.specs.Closing.{closed, closed-into};
+ghost use Rattle.counting.specs.Answered.{number-in};
+ghost use Rattle.host_memory.specs.Memory.{session-in, with-line};
+ghost use Rattle.host_session.specs.Told.{line-said, reply-in, shift-rows, Leaves};
+use host_row::reading;
+use method::Event;
+use method::EventAnswer;
+use method::Holds;
+use method::Quote;
+use method::Row;
+use method::TableAnswer;
+use numbers::Millionths;
+use numbers::Seconds;
+use verdict::Change;
+use verdict::Verdict;
+
+// Opens a session. After a refused table the memory holds none: what it reads as is then not `Valid`.
+pub fn open(session: &mut [[u64; 21]; 33], table: &[u8], line: &mut i64) -> i64
+    ensures { λ r. ⌜ r ≡ pos (table-said (opened-session (opening (now (table .entry))) .answer) .number) ⌝ }
+    ensures { λ _. ⌜ now (line .exit) ≡ line-said (opened-session (opening (now (table .entry))) .answer) ⌝ }
+    ensures { λ _. ⌜ session-in (now (session .exit)) ≡ opened-session (opening (now (table .entry))) .session ⌝ }
+{
+    let o = corridor::open(table);
+    let s = o.session;
+    host_memory::kept(session, s);
+    let answer = o.answer;
+    match answer {
+        TableAnswer::Opened => {
+            *line = 0;
+            0
+        }
+        TableAnswer::Refused(why, at) => {
+            let row = rows::row_numbers(Row::RefusedTable(why, at));
+            *line = row[2];
+            row[1]
+        }
+    }
+}
+
+// By way of the whole session, which is copied out of the memory and back into it.
+fn by_value(
+    session: &mut [[u64; 21]; 33],
+    bytes: &[u8],
+    out: &mut [i64; 96],
+    made: &mut usize,
+) -> i64
+    requires { ⌜ Valid (session-in (now session)) ⌝ }
+    ensures { λ r. ⌜ r ≡ pos (event-said (reply-in (now (session .entry)) (now (bytes .entry)) .answer) .number) ⌝ }
+    ensures { λ _. ⌜ now (made .exit) ≡ reply-in (now (session .entry)) (now (bytes .entry)) .made ⌝ }
+    ensures { λ _. ⌜ now (out .exit) ≡ written (now (out .entry)) 0 (shift-rows (reply-in (now (session .entry)) (now (bytes .entry)))) ⌝ }
+    ensures { λ r. ⌜ Leaves r (now (session .entry)) (now (session .exit)) (reply-in (now (session .entry)) (now (bytes .entry)) .session) ⌝ }
+{
+    let s = host_memory::taken(session);
+    let r = s.event(bytes);
+    let shifts = r.shifts;
+    rows::write_shifts(out, 0, shifts, r.made);
+    *made = r.made;
+    let answer = r.answer;
+    match answer {
+        EventAnswer::Refused(why) => {
+            let row = rows::row_numbers(Row::RefusedEvent(why));
+            row[1]
+        }
+        EventAnswer::Accepted => {
+            let next = r.session;
+            host_memory::kept(session, next);
+            0
+        }
+    }
+}
+
+// What a walk over the lines says of an event, and the second before which no hold falls due, whatever the event.
+pub struct Seen {
+    pub verdict: Verdict,
+    pub quiet: Seconds,
+}
+
+fn looked(session: &[[u64; 21]; 33], e: Event) -> Seen
+    requires { ⌜ Valid (session-in (now session)) ⌝ }
+    ensures { λ r. ⌜ r .verdict ≡ screened (ids (view (session-in (now (session .entry))) .lines))
+        (session-in (now (session .entry)) .end) (session-in (now (session .entry)) .clock) e ⌝ }
+    ensures { λ r. ⌜ r .quiet ≡ quiet-until (view (session-in (now (session .entry)))) ⌝ }
+{
+    let head = session[32];
+    let n = head[0] as usize;
+    let clock = Seconds(reading::word(head[1]));
+    let end = Seconds(reading::word(head[2]));
+    let wait = Seconds(reading::word(head[3]));
+    let mut ids: [u32; 32] = [0; 32];
+    let mut quiet = Seconds(4294967295);
+    for i in 0..n {
+        ids[i] = reading::word(session[i][0]);
+        let up = reading::hold(session[i][17], session[i][18]);
+        let down = reading::hold(session[i][19], session[i][20]);
+        quiet = due::until(quiet, wait, Holds { up: up, down: down });
+    }
+    let verdict = verdict::screen(&ids[..n], 0, end, clock, e);
+    Seen {
+        verdict: verdict,
+        quiet: quiet,
+    }
+}
+
+// A quote on the line at its place.
+fn quoted(session: &mut [[u64; 21]; 33], place: usize, q: Quote)
+    requires { ⌜ (place < 32) × Valid (session-in (now session))
+        × Pressed (session-in (now session) .near) (with-book (getD (session-in (now session) .lines) place blank) (q .bid) (q .ask)) ⌝ }
+    ensures { λ _. ⌜ session-in (now (session .exit)) ≡ with-line (session-in (now (session .entry))) place
+        (quoted-line (session-in (now (session .entry)) .near) (session-in (now (session .entry)) .left) q
+        (getD (session-in (now (session .entry)) .lines) place blank)) ⌝ }
+{
+    let head = session[32];
+    let near = Millionths(reading::word(head[5]));
+    let row = session[place];
+    let l = reading::line(row);
+    let m = shifts::shift::quoted_line(near, reading::word(head[4]), q, l);
+    host_memory::with_line(session, place, m);
+}
+
+// One event, where the session lies. Only where a hold falls due by its second is the session taken out of the memory.
+pub fn event(
+    session: &mut [[u64; 21]; 33],
+    bytes: &[u8],
+    out: &mut [i64; 96],
+    made: &mut usize,
+) -> i64
+    requires { ⌜ Valid (session-in (now session)) ⌝ }
+    ensures { λ r. ⌜ r ≡ pos (event-said (reply-in (now (session .entry)) (now (bytes .entry)) .answer) .number) ⌝ }
+    ensures { λ _. ⌜ now (made .exit) ≡ reply-in (now (session .entry)) (now (bytes .entry)) .made ⌝ }
+    ensures { λ _. ⌜ now (out .exit) ≡ written (now (out .entry)) 0 (shift-rows (reply-in (now (session .entry)) (now (bytes .entry)))) ⌝ }
+    ensures { λ r. ⌜ Leaves r (now (session .entry)) (now (session .exit)) (reply-in (now (session .entry)) (now (bytes .entry)) .session) ⌝ }
+{
+    let e = events::read(bytes);
+    let s = looked(session, e);
+    let said = s.verdict;
+    match said {
+        Verdict::Refused(why) => {
+            *made = 0;
+            let row = rows::row_numbers(Row::RefusedEvent(why));
+            row[1]
+        }
+        Verdict::Taken(v) => {
+            let t = v.time;
+            if s.quiet.0 <= t.0 {
+                return by_value(session, bytes, out, made);
+            }
+            *made = 0;
+            let change = v.change;
+            match change {
+                Change::Nothing => {}
+                Change::Quote(p) => {
+                    let q = p.quote;
+                    quoted(session, p.place, q);
+                }
+            }
+            host_memory::with_clock(session, t);
+            0
+        }
+    }
+}
+
+// A buffer of events. Where the room is not there, nothing is done.
+pub fn feed(session: &mut [[u64; 21]; 33], events: &[u8], out: &mut [i64]) -> usize
+    requires { ⌜ Valid (session-in (now session)) ⌝ }
+    ensures { λ r. ⌜ r ≡ number-in (fed (session-in (now (session .entry))) (length (now (out .entry))) (now (events .entry)) .answer) ⌝ }
+    ensures { λ _. ⌜ now (out .exit) ≡ fed-into (session-in (now (session .entry))) (now (out .entry)) (now (events .entry)) ⌝ }
+    ensures { λ _. ⌜ session-in (now (session .exit))
+        ≡ fed (session-in (now (session .entry))) (length (now (out .entry))) (now (events .entry)) .session ⌝ }
+{
+    let s = host_memory::taken(session);
+    let f = feeding::feed(s, events, out);
+    let next = f.session;
+    host_memory::kept(session, next);
+    let answer = f.answer;
+    counting::number_in(answer)
+}
+
+// The closing rows. Where the room is not there, nothing is written.
+pub fn close(session: &[[u64; 21]; 33], out: &mut [i64]) -> usize
+    requires { ⌜ Valid (session-in (now session)) ⌝ }
+    ensures { λ r. ⌜ r ≡ number-in (closed (session-in (now (session .entry))) (length (now (out .entry)))) ⌝ }
+    ensures { λ _. ⌜ now (out .exit) ≡ closed-into (session-in (now (session .entry))) (now (out .entry)) ⌝ }
+{
+    let s = host_memory::taken(session);
+    let answer = closing::close(s, out);
+    counting::number_in(answer)
+}

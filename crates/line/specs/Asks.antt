@@ -1,9 +1,0 @@
--- What a corridor asks, and its callers show.
-use Prim.Native.Nat.{_≤_}
-use Rattle.method.specs.words.Ranges.{whole}
-use Rattle.bounds.specs.Asks.{Drawn}
-use Rattle.line.specs.Names.{Terms, Market, Millionths}
-
-pub record Spanned (width : Millionths) (t : Terms) (m : Market) : Type 0 where
-  pub drawn : Drawn t m
-  pub share : width .0 ≤ whole
