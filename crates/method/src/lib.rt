@@ -259,8 +259,8 @@ pub enum LineAnswer {
 
 // ==== the ends of ranges
 
-// One for each of specs/words/Ranges, and `most-exponent`: the code has no other number for them. The sizes of arrays that hold so many contracts,
-// keys or shifts are literals (32, 16, 16); where a count may be larger than its array, the proofs about that array fail.
+// One for each end that specs/words/Ranges names, and `most-exponent`; the code of all crates has them from here. Only the arrays that hold so many
+// contracts, keys or shifts have a literal for their size (32, 16, 16): where a count may be more than its array holds, its proofs fail.
 pub const MOST_CONTRACTS: u32 = 32;
 
 pub const MOST_KEYS: u32 = 16;
@@ -305,7 +305,7 @@ const ALL_ENDS: [u64; 12] = [
     MOST_EXPONENT,
 ];
 
-// Nobody calls it: its contract says that each constant is its word, and where one differs it is not proved.
+// Called by nobody. It is proved only where each constant is the end that the words name.
 fn ends() -> [u64; 12]
     ensures { λ r. ⌜ r ≡ most-contracts ∷ most-keys ∷ longest-session ∷ longest-hold ∷ most-shifts ∷ largest-near-share ∷ whole ∷ largest-rate ∷ most-days ∷ largest-price ∷ largest-quote ∷ most-exponent ∷ [] ⌝ }
 {

@@ -12,8 +12,8 @@ use Rattle.method.specs.words.Ranges.{most-contracts, longest-session, l
 use Rattle.method.specs.words.Bounds.{bound}
 use Rattle.method.specs.computed.Types.{Event, Damaged, Tick, Quoted}
 
--- ---- bounds that follow from those of the words; sums and products of the code fit by them
--- a half-move: half of the largest half-width, at a shift share of the whole
+-- ---- bounds that follow from the ends that the words name; by them the code's sums and products fit
+-- of a half-move: half the largest half-width, at a shift share of the whole
 abbrev pub largest-half-move : ℕ
 largest-half-move = largest-price / 2
 
@@ -31,7 +31,7 @@ largest-factor = 1_650_000_000
 abbrev pub least-factor : ℕ
 least-factor = 606_000_000
 
--- a market bound, as far from the centre as that is from 0, and an interest bound; a limit lies inside of it
+-- of a market bound, centre and half-width together, and of an interest bound and what lies inside of it
 abbrev pub largest-market-bound : ℕ
 largest-market-bound = 2 * largest-reach
 

@@ -9,15 +9,15 @@ use Rattle.numbers.specs.Ranges.{Within, Between, Span}
 use Rattle.method.specs.words.Types.{Header, Key, Contract}
 use Rattle.method.specs.words.Wire.{bit}
 
--- ---- the ends of ranges: each number stands here and nowhere else (the exponent's is `most-exponent`). Code takes them by the constants of src/lib.rt,
--- which are proved to be the same.
+-- ---- the ends of ranges; the exponent's is `most-exponent`. No contract, law or proof has these numbers, and src/lib.rt has them once more, proved
+-- to be the same.
 abbrev pub most-contracts : ℕ
 most-contracts = 32
 
 abbrev pub most-keys : ℕ
 most-keys = 16
 
--- seconds
+-- in seconds
 abbrev pub longest-session : ℕ
 longest-session = 172_800
 
@@ -30,21 +30,22 @@ most-shifts = 16
 abbrev pub largest-near-share : ℕ
 largest-near-share = 500_000
 
--- the whole of which a share is one: 1,000,000 millionths (METHOD 1.2)
+-- one, in millionths: what a share is a part of (METHOD 1.2)
 abbrev pub whole : ℕ
 whole = 1_000_000
 
--- a year
+-- of a key
 abbrev pub largest-rate : ℕ
 largest-rate = 1_000_000
 
 abbrev pub most-days : ℕ
 most-days = 3_650
 
--- of the table, and of an event
+-- of a contract: settlement price, spot and least price
 abbrev pub largest-price : ℕ
 largest-price = 100_000_000
 
+-- of an event: bid and ask
 abbrev pub largest-quote : ℕ
 largest-quote = 2_000_000_000
 
