@@ -33,13 +33,13 @@ fn factor(side: Side, t: Terms) -> Billionths
     let f = t.factors;
     match side {
         Side::Up => {
-            if t.below {
+            if t.negative {
                 return f.down;
             }
             f.up
         }
         Side::Down => {
-            if t.below {
+            if t.negative {
                 return f.up;
             }
             f.down

@@ -1,16 +1,18 @@
 -- Serving: what holds at the head of the outer loop, and a turn of it; and the session that is served. Assumes nothing.
-use mathlib.Core.Path.{_≡_, refl, ap, sym, _∙_}
+use mathlib.Core.Path.{_≡_, refl, ap, sym, _∙_, subst}
 use mathlib.Core.List.{List, [], _∷_, _++_, append-assoc, append-nil}
-use Prim.Native.Nat.{ℕ, zero, suc, _+_, _-_, _<_, _≤_}
+use Prim.Native.Nat.{ℕ, _+_, _-_, _<_, _≤_}
 use native.Mathlib.Omega.{arith}
 use lib.ListN.{length, getD, set, replicate, length-append}
 use lib.Seq.{getD-take}
 use Rattle.numbers.specs.Arrays.{padded}
 use Rattle.numbers.proofs.Arrays.{padded-set}
 use Rattle.method.specs.words.Types.{State, blank}
-use Rattle.method.specs.computed.Shift.{shifted, onward, after}
-use Rattle.method.specs.computed.Search.{in-time, next-due, called, serve}
-use Rattle.method.proofs.Serving.{serve-calls}
+use Rattle.method.specs.computed.Shift.{shifted, onward, after, most-left}
+use Rattle.method.specs.computed.Search.{in-time, next-due, called, served-by}
+use Rattle.method.proofs.HoldLife.{Judged}
+use Rattle.method.proofs.Head.{most-shifted}
+use Rattle.method.proofs.Serving.{judged-onward, served-calls, served-none, served-first}
 use Rattle.method.proofs.Later.{sane-after}
 use Rattle.corridor.specs.Names.{Seconds, ShiftLine, Due, Found, Nothing, At}
 use Rattle.corridor.specs.declared.Session.{Session}
@@ -20,16 +22,6 @@ use Rattle.corridor.specs.Reply.{no-shift, served-as}
 use Rattle.corridor.proofs.Views.{view-put, put-put, put-view, view-length, ranged, ranged-length, ranged-put}
 use Rattle.corridor.proofs.Shifting.{shifted-length, after-length, after-last, ranged-shifted}
 use Rattle.corridor.proofs.Due.{Passed, searched, Next, next-is}
-
--- ---- one step of serving
-pub serve-stop : (n : ℕ) (t : Seconds) (s : State) → next-due t s ≡ Nothing → serve n t s ≡ []
-unfolding serve
-serve-stop zero t s e = refl
-serve-stop (suc n) t s e = rw e
-
-serve-go : (n : ℕ) (t : Seconds) (s : State) (x : Due) → next-due t s ≡ At x → serve (suc n) t s ≡ called s x ∷ serve n t (onward s (called s x))
-unfolding serve
-serve-go n t s x e = rw e
 
 -- ---- at the head of the outer loop: `cs` are the shift lines made so far, and with those that are left to make they are the method's
 pub record Going (t : Seconds) (s₀ : Session) (n : ℕ) (wait end : Seconds) (s : Session) (shifts : List ShiftLine) (made : ℕ) : Type 0 where
@@ -42,8 +34,9 @@ pub record Going (t : Seconds) (s₀ : Session) (n : ℕ) (wait end : Seconds) (
   pub now : view s ≡ after cs (view s₀)
   pub told : shifts ≡ padded 16 no-shift cs
   pub counted : made ≡ length cs
-  pub spent : length cs + s .left ≤ 16
-  pub rest : serve (s₀ .left) t (view s₀) ≡ cs ++ serve (s .left) t (view s)
+  pub judged : Judged (view s)
+  pub spent : length cs + most-left (view s) ≤ 16
+  pub rest : served-by t (view s₀) ≡ cs ++ served-by t (view s)
 
 pub going-start : (t : Seconds) (s : Session) → Valid s → Going t s (s .count) (s .hold) (s .end) s (replicate 16 no-shift) 0
 unfolding after
@@ -58,6 +51,7 @@ going-start t s v =
       now = refl;
       told = refl;
       counted = refl;
+      judged = v .sound .exact;
       spent = omega (arith, v .sane .left);
       rest = refl;
     }
@@ -69,10 +63,10 @@ module _ {t : Seconds} {s₀ : Session} {n : ℕ} {wait end : Seconds} {s : Sess
       searched s t wait end n i best d (at .lines) (at .waits) (at .ends) (omega (arith, at .lines, at .ranged .full, at .ranged .few))
 
   -- nothing is due any more
-  pub going-end : next-due t (view s) ≡ Nothing → _≡_ {A = Served} (record { shifts = shifts; made = made; session = s }) (served-as s₀ (serve (s₀ .left) t (view s₀)))
+  pub going-end : next-due t (view s) ≡ Nothing → _≡_ {A = Served} (record { shifts = shifts; made = made; session = s }) (served-as s₀ (served-by t (view s₀)))
   going-end e =
-      let all : serve (s₀ .left) t (view s₀) ≡ at .cs
-      = at .rest ∙ ap (λ (ds : List ShiftLine). at .cs ++ ds) (serve-stop (s .left) t (view s) e) ∙ append-nil (at .cs) in
+      let all : served-by t (view s₀) ≡ at .cs
+      = at .rest ∙ ap (λ (ds : List ShiftLine). at .cs ++ ds) (served-none t (view s) (at .judged) e) ∙ append-nil (at .cs) in
       let stands : s ≡ put s₀ (after (at .cs) (view s₀)) = at .written ∙ ap (put s₀) (at .now) in
       let made-up : _≡_ {A = Served} (record { shifts = shifts; made = made; session = s }) (served-as s₀ (at .cs))
       = λ i. record { shifts = at .told i; made = at .counted i; session = stands i } in
@@ -95,9 +89,8 @@ module _ {t : Seconds} {s₀ : Session} {n : ℕ} {wait end : Seconds} {s : Sess
       let o = next-is t v x e in
       let size = shifted-length (x .side) (x .second) v in
       let seen : view (put s w) ≡ w = view-put s w in
-      let one : s .left ≡ suc (s .left - 1) = omega (arith, o .left) in
+      let fewer = most-shifted (x .side) (x .second) v (o .left) in
       let more : length (at .cs ++ (b ∷ [])) ≡ length (at .cs) + 1 = length-append (at .cs) (b ∷ []) in
-      let go : serve (s .left) t v ≡ b ∷ serve (s .left - 1) t w = ap (λ (k : ℕ). serve k t v) one ∙ serve-go (s .left - 1) t v x e in
       rw (ec, m)
       (record {
         cs = at .cs ++ (b ∷ []);
@@ -107,17 +100,18 @@ module _ {t : Seconds} {s₀ : Session} {n : ℕ} {wait end : Seconds} {s : Sess
         ends = at .ends;
         written = ap (λ (z : Session). put z w) (at .written) ∙ put-put s₀ v w size ∙ ap (put s₀) (sym seen);
         now = seen ∙ ap (λ (z : State). onward z b) (at .now) ∙ sym (after-last (at .cs) b (view s₀));
-        told = rw (at .told, at .counted) (padded-set 16 no-shift (at .cs) b (omega (arith, at .spent, o .left)));
+        told = rw (at .told, at .counted) (padded-set 16 no-shift (at .cs) b (omega (arith, at .spent, fewer)));
         counted = omega (arith, at .counted, more);
-        spent = omega (arith, at .spent, o .left, more);
+        judged = subst Judged (sym seen) (judged-onward v b);
+        spent = subst (λ (z : State). length (at .cs ++ (b ∷ [])) + most-left z ≤ 16) (sym seen) (omega (arith, at .spent, fewer, more));
         rest =
-            at .rest ∙ ap (λ (ds : List ShiftLine). at .cs ++ ds) go ∙ sym (append-assoc (at .cs) (b ∷ []) (serve (s .left - 1) t w))
-            ∙ ap (λ (z : State). (at .cs ++ (b ∷ [])) ++ serve (s .left - 1) t z) (sym seen);
+            at .rest ∙ ap (λ (ds : List ShiftLine). at .cs ++ ds) (served-first t v x (at .judged) e) ∙ sym (append-assoc (at .cs) (b ∷ []) (served-by t w))
+            ∙ ap (λ (z : State). (at .cs ++ (b ∷ [])) ++ served-by t z) (sym seen);
       })
 
 -- ---- the session that is served
-pub ranged-served : (s : Session) (t : Seconds) → Valid s → Ranged (put s (after (serve (s .left) t (view s)) (view s)))
+pub ranged-served : (s : Session) (t : Seconds) → Valid s → Ranged (put s (after (served-by t (view s)) (view s)))
 ranged-served s t v =
-    let cs = serve (s .left) t (view s) in
+    let cs = served-by t (view s) in
     ranged-put s (after cs (view s)) (v .full) (omega (arith, after-length cs (view s), view-length v, v .few))
-    (sane-after (view s) (v .sane) (v .sound .exact) t cs (serve-calls (s .left) t (view s) refl (v .sound .exact)))
+    (sane-after (view s) (v .sane) (v .sound .exact) t cs (served-calls t (view s) (v .sound .exact)))

@@ -12,7 +12,7 @@ use Rattle.method.specs.words.Sessions.{Answer}
 use Rattle.method.specs.computed.Shift.{with-lines, after}
 use Rattle.method.specs.computed.Event.{read, verdict, with-book, quoted-line, quoted, applied, next}
 use Rattle.method.specs.computed.Relation.{time}
-use Rattle.method.specs.computed.Search.{serve, answer, finally}
+use Rattle.method.specs.computed.Search.{served-by, answer, finally}
 use Rattle.method.specs.computed.Rooms.{PriceIn, EventIn}
 use Rattle.method.proofs.Demands.{by-cond}
 use Rattle.method.proofs.Events.{read-in}
@@ -24,8 +24,8 @@ use Rattle.corridor.specs.Names.{Seconds, Millionths, Line, ShiftLine, Q
 use Rattle.corridor.specs.declared.Session.{Session}
 use Rattle.corridor.specs.declared.Served.{Served}
 use Rattle.corridor.specs.declared.Reply.{Reply}
-use Rattle.corridor.specs.View.{view, put, Ranged, Valid}
-use Rattle.corridor.specs.Applied.{moved-on, lines-after, Applies}
+use Rattle.corridor.specs.View.{view, put, Ranged, Valid, moved-on}
+use Rattle.corridor.specs.Applied.{lines-after, Applies}
 use Rattle.corridor.specs.Reply.{no-shift, served-as, refused-with, reply-of}
 use Rattle.corridor.proofs.Views.{view-length}
 use Rattle.corridor.proofs.Rows.{room-at}
@@ -48,7 +48,7 @@ abbrev taken : Session → Event → List ShiftLine → Reply
 taken s e cs =
     record { answer = EventAnswer.Accepted; shifts = padded 16 no-shift cs; made = length cs; session = put s (applied e (after cs (view s))) }
 
-pub accepted : (s : Session) (e : Event) → verdict (view s) e ≡ EventAnswer.Accepted → taken s e (serve (s .left) (time e) (view s)) ≡ reply s e
+pub accepted : (s : Session) (e : Event) → verdict (view s) e ≡ EventAnswer.Accepted → taken s e (served-by (time e) (view s)) ≡ reply s e
 unfolding answer reply-of next
 accepted s e h = rw h
 
@@ -68,18 +68,18 @@ quote-in b q said = subst EventIn said (read-in b)
 
 -- what a quote asks of its line, in the session served
 pub quote-asks : (s : Session) (t : Seconds) (q : Quote) (p : ℕ) (r : Served) → Valid s → Named (q .id) (view s .lines) p → PriceIn (q .bid) × PriceIn (q .ask)
-    → r ≡ served-as s (serve (s .left) t (view s)) → Pressed (r .session .near) (with-book (getD (r .session .lines) p blank) (q .bid) (q .ask))
+    → r ≡ served-as s (served-by t (view s)) → Pressed (r .session .near) (with-book (getD (r .session .lines) p blank) (q .bid) (q .ask))
 quote-asks s t q p r v named i er = rw er (go (ranged-served s t v))
   where
     x : State
-    x = after (serve (s .left) t (view s)) (view s)
+    x = after (served-by t (view s)) (view s)
 
     go : Ranged (put s x) → Pressed (x .near) (with-book (getD (put s x .lines) p blank) (q .bid) (q .ask))
     go w = room-quotes (x .near) (q .bid) (q .ask) (w .sane .near .most) (i .0) (i .1)
-        (room-at p w (omega (arith, named-below (q .id) (view s .lines) p named, after-length (serve (s .left) t (view s)) (view s))))
+        (room-at p w (omega (arith, named-below (q .id) (view s .lines) p named, after-length (served-by t (view s)) (view s))))
 
 pub applies : (s : Session) (b : List ℕ) (v : Taken) (t : Seconds) (r : Served) → Valid s → Takes (view s) (read b) v
-    → r ≡ served-as s (serve (s .left) t (view s)) → Applies (r .session) (v .change)
+    → r ≡ served-as s (served-by t (view s)) → Applies (r .session) (v .change)
 applies s b v t r w o er = go (v .change) (o .changes)
   where
     go : (c : Change) → Changes (view s) (read b) c → Applies (r .session) c
@@ -106,18 +106,18 @@ changes-after cs s e Change.Nothing said = said
 changes-after cs s e (Change.Quote p) (said, named) = (said, named-after (p .quote .id) cs s (p .place) named)
 
 -- z is the session served, with what the event changes; with the event's time it is the reply's
-pub event-taken : (s : Session) (e : Event) (v : Taken) (r : Served) → Takes (view s) e v → r ≡ served-as s (serve (s .left) (v .time) (view s)) → (c : Change)
+pub event-taken : (s : Session) (e : Event) (v : Taken) (r : Served) → Takes (view s) e v → r ≡ served-as s (served-by (v .time) (view s)) → (c : Change)
     → v .change ≡ c → (z : Session) → z ≡ moved-on (r .session) (lines-after (r .session) c) (r .session .clock) → handed r z (v .time) ≡ reply s e
 event-taken s e v r o er c ec z ez =
     ap (λ (z : Session). handed r z (v .time)) ez
     ∙ ap (λ (t : Seconds). handed r (moved-on (r .session) (lines-after (r .session) c) (r .session .clock)) t) (o .timed)
-    ∙ ap (λ (z : Served). handed z (moved-on (z .session) (lines-after (z .session) c) (z .session .clock)) (time e)) (er ∙ ap (λ (t : Seconds). served-as s (serve (s .left) t (view s))) (o .timed))
+    ∙ ap (λ (z : Served). handed z (moved-on (z .session) (lines-after (z .session) c) (z .session .clock)) (time e)) (er ∙ ap (λ (t : Seconds). served-as s (served-by t (view s))) (o .timed))
     ∙ ap (λ (z : Session). record { answer = EventAnswer.Accepted; shifts = padded 16 no-shift cs; made = length cs; session = z })
     (changed s (after cs (view s)) e c (changes-after cs (view s) e c (subst (Changes (view s) e) ec (o .changes))))
     ∙ accepted s e (o .accepted)
   where
     cs : List ShiftLine
-    cs = serve (s .left) (time e) (view s)
+    cs = served-by (time e) (view s)
 
 -- ---- an event changes no number of lines
 quoted-length : (near : Millionths) (left : ℕ) (q : Quote) (ls : List Line) → length (quoted near left q ls) ≡ length ls

@@ -7,10 +7,9 @@ use native.Mathlib.Omega.{arith}
 use lib.Dec.{eqb}
 use lib.ListN.{length, getD, set, take, replicate, length-set}
 use lib.Seq.{take-suc, take-suc-set}
-use Rattle.method.specs.words.Types.{State, blank}
+use Rattle.method.specs.words.Types.{State, blank, ids, session-ids}
 use Rattle.method.specs.words.Sessions.{Answer, accepted, refused}
-use Rattle.method.specs.computed.Opening.{ids}
-use Rattle.method.specs.computed.Judge.{judge}
+use Rattle.method.specs.computed.Judge.{judge-line}
 use Rattle.method.specs.computed.Shift.{shifted, onward, after}
 use Rattle.method.specs.computed.Event.{quoted-line, quoted, applied, next}
 use Rattle.method.proofs.Demands.{by-cond}
@@ -40,25 +39,25 @@ pub gathered-all : (rows : List Line) (n i : ℕ) (got : List ℕ) → i ≡ n �
 gathered-all rows n i got e o = ap (λ (k : ℕ). take k got) (sym e) ∙ o .same ∙ ap (λ (k : ℕ). ids (take k rows)) e
 
 -- ---- ids stay
-pub ids-after : (cs : List ShiftLine) (s : State) → ids (after cs s .lines) ≡ ids (s .lines)
+pub ids-after : (cs : List ShiftLine) (s : State) → session-ids (after cs s) ≡ session-ids s
 unfolding after shifted
 ids-after [] s = refl
 ids-after (c ∷ cs) s = ids-after cs (onward s c) ∙ ids-shifted (s .near) (s .left - 1) (c .side) (c .second) (s .lines)
 
 ids-quoted : (near : Millionths) (left : ℕ) (q : Quote) (ls : List Line) → ids (quoted near left q ls) ≡ ids ls
-unfolding quoted quoted-line judge
+unfolding quoted quoted-line judge-line
 ids-quoted near left q [] = refl
 ids-quoted near left q (l ∷ ls) =
     by-cond (λ (zs : List Line). ids zs ≡ l .terms .id ∷ ids ls) (eqb (l .terms .id) (q .id)) (λ e. refl)
     (λ e. ap (λ (js : List ℕ). l .terms .id ∷ js) (ids-quoted near left q ls))
 
-pub ids-applied : (e : Event) (s : State) → ids (applied e s .lines) ≡ ids (s .lines)
+pub ids-applied : (e : Event) (s : State) → session-ids (applied e s) ≡ session-ids s
 unfolding applied
 ids-applied Damaged s = refl
 ids-applied (Tick t) s = refl
 ids-applied (Quoted q) s = ids-quoted (s .near) (s .left) q (s .lines)
 
-pub ids-next : (s : State) (e : Event) (a : Answer) → ids (next s e a .lines) ≡ ids (s .lines)
+pub ids-next : (s : State) (e : Event) (a : Answer) → session-ids (next s e a) ≡ session-ids s
 unfolding next
 ids-next s e (accepted cs) = ids-applied e (after cs s) ∙ ids-after cs s
 ids-next s e (refused why) = refl

@@ -6,7 +6,7 @@ use native.Mathlib.Omega.{arith}
 use borrow.Author.Tests.{eq-eqb, ne-eqb}
 use lib.ListN.{length, getD, set}
 use Rattle.method.specs.words.Types.{State, blank}
-use Rattle.method.specs.computed.Judge.{judge}
+use Rattle.method.specs.computed.Judge.{judge-line}
 use Rattle.method.specs.computed.Shift.{moved-line, shift-line, shifted, onward, after}
 use Rattle.method.specs.computed.Event.{quoted-line, quoted}
 use Rattle.corridor.specs.Names.{Millionths, Seconds, Side, Line, Quote, ShiftLine}
@@ -33,7 +33,7 @@ named-quoted near left q (l ∷ ls) (suc p) h =
 
 -- ---- shifts leave every line's terms
 terms-kept : (near : Millionths) (left : ℕ) (side : Side) (now : Seconds) (l : Line) → shift-line near left side now l .terms ≡ l .terms
-unfolding shift-line judge moved-line
+unfolding shift-line judge-line moved-line
 terms-kept near left side now l = refl
 
 named-map : (f : Line → Line) → ((l : Line) → f l .terms ≡ l .terms) → (id : ℕ) (ls : List Line) (p : ℕ) → Named id ls p → Named id (map f ls) p

@@ -7,12 +7,13 @@ use lib.ListN.{length, drop, replicate}
 use Rattle.method.specs.words.Types.{State, blank, seconds}
 use Rattle.method.specs.words.Tables.{Opening, opened, refused}
 use Rattle.method.specs.computed.Table.{opening}
+use Rattle.method.specs.computed.Shift.{with-lines}
 use Rattle.method.proofs.Table.{accepted-table}
-use Rattle.table.specs.declared.Opened.{Opened as Table}
-use Rattle.table.specs.Opened.{opened-as}
+use Rattle.table.specs.declared.TableReply.{TableReply}
+use Rattle.table.specs.Reply.{opened-as}
 use Rattle.corridor.specs.Names.{TableAnswer}
-use Rattle.corridor.specs.declared.Opened.{Opened}
-use Rattle.corridor.specs.View.{opened-session}
+use Rattle.corridor.specs.declared.OpenReply.{OpenReply}
+use Rattle.corridor.specs.View.{with-head, opened-session}
 
 drop-replicate : {A : Type 0} (n m : ℕ) (d : A) → drop n (replicate m d) ≡ replicate (m - n) d
 drop-replicate zero m d = let e : m ≡ m - 0 = omega arith in ap (λ (k : ℕ). replicate k d) e
@@ -20,7 +21,7 @@ drop-replicate (suc n) zero d = let e : 0 ≡ 0 - suc n = omega arith in ap (λ 
 drop-replicate (suc n) (suc m) d = let e : m - n ≡ suc m - suc n = omega arith in drop-replicate n m d ∙ ap (λ (k : ℕ). replicate k d) e
 
 -- what `open` makes of a table's answer
-abbrev session-from : Table → Opened
+abbrev session-from : TableReply → OpenReply
 session-from o =
     record {
       answer = o .answer;
@@ -28,7 +29,7 @@ session-from o =
           record { lines = o .lines; count = o .count; clock = seconds 0; end = o .end; hold = o .hold; left = o .most; near = o .near };
     }
 
-pub opens : (b : List ℕ) (o : Table) → o ≡ opened-as (opening b) → session-from o ≡ opened-session (opening b)
+pub opens : (b : List ℕ) (o : TableReply) → o ≡ opened-as (opening b) → session-from o ≡ opened-session (opening b)
 opens b o e = ap session-from e ∙ go (opening b) (λ s q. accepted-table b s q .state .clock)
   where
     go : (x : Opening) → ((s : State) → x ≡ opened s → s .clock ≡ seconds 0) → session-from (opened-as x) ≡ opened-session x
@@ -37,14 +38,7 @@ opens b o e = ap session-from e ∙ go (opening b) (λ s q. accepted-table b s q
         λ i. record {
           answer = TableAnswer.Opened;
           session =
-              record {
-                lines = s .lines ++ sym (drop-replicate (length (s .lines)) 32 blank) i;
-                count = length (s .lines);
-                clock = sym (h s refl) i;
-                end = s .end;
-                hold = s .hold;
-                left = s .left;
-                near = s .near;
-              };
+              with-head (with-lines s (s .lines) (s .left) (sym (h s refl) i)) (length (s .lines))
+              (s .lines ++ sym (drop-replicate (length (s .lines)) 32 blank) i);
         }
     go (refused why line) h = unfold opened-as opened-session in refl

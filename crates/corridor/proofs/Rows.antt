@@ -6,10 +6,11 @@ use native.Mathlib.Omega.{arith}
 use lib.ListN.{length, getD, set, take, drop}
 use lib.Seq.{length-take-le, getD-take}
 use Rattle.method.specs.words.Types.{blank}
+use Rattle.method.specs.computed.Shift.{most-left}
 use Rattle.method.specs.computed.Rooms.{Room}
 use Rattle.method.proofs.Every.{every-at}
 use Rattle.corridor.specs.declared.Session.{Session}
-use Rattle.corridor.specs.View.{Ranged}
+use Rattle.corridor.specs.View.{view, Ranged}
 
 -- the first k elements changed
 unfoldable pub changed : {A : Type 0} → (A → A) → ℕ → List A → List A
@@ -40,8 +41,8 @@ module _ {A : Type 0} (f : A → A) where
   changed-view (suc n) (x ∷ xs) = ap (λ (l : List A). f x ∷ l) (changed-view n xs)
 
 -- ---- a row of a session
-pub room-at : {s : Session} (i : ℕ) → Ranged s → i < s .count → Room (s .left) (getD (s .lines) i blank)
+pub room-at : {s : Session} (i : ℕ) → Ranged s → i < s .count → Room (most-left (view s)) (getD (s .lines) i blank)
 room-at {s} i v h =
     let long = length-take-le (s .count) (s .lines) (omega (arith, v .full, v .few)) in
-    subst (Room (s .left)) (getD-take (s .count) (s .lines) i blank h)
-    (every-at (Room (s .left)) (take (s .count) (s .lines)) blank i (v .sane .rooms) (omega (arith, long)))
+    subst (Room (most-left (view s))) (getD-take (s .count) (s .lines) i blank h)
+    (every-at (Room (most-left (view s))) (take (s .count) (s .lines)) blank i (v .sane .rooms) (omega (arith, long)))

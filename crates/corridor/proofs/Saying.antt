@@ -7,15 +7,14 @@ use native.Mathlib.Omega.{arith}
 use borrow.Author.Tests.{eqb-true, eqb-false, leb-true, ltb-true, ltb-false, lt-ltb, le-ltb}
 use lib.Dec.{eqb, ltb, leb}
 use lib.ListN.{length}
-use Rattle.method.specs.words.Types.{State}
-use Rattle.method.specs.told.Questions.{known, demand}
-use Rattle.method.specs.computed.Opening.{ids}
+use Rattle.method.specs.words.Types.{State, ids, session-ids}
+use Rattle.method.specs.told.Questions.{listed, known, demand}
 use Rattle.method.specs.computed.Event.{in-session, not-crossed, verdict}
 use Rattle.method.specs.computed.Relation.{time}
 use Rattle.verdict.specs.declared.Change.{Change}
 use Rattle.verdict.specs.declared.Taken.{Taken}
 use Rattle.verdict.specs.declared.Verdict.{Verdict}
-use Rattle.verdict.specs.Screened.{place-of, timely, placed-quote, quote-screened, screened}
+use Rattle.verdict.specs.Screened.{place-of, if-in-session, placed-quote, quote-screened, screened}
 use Rattle.corridor.specs.Names.{Seconds, Line, Quote, Event, Damaged, Tick, Quoted, EventAnswer, EventReason}
 use Rattle.corridor.specs.declared.Session.{Session}
 use Rattle.corridor.specs.View.{view}
@@ -29,15 +28,14 @@ ltb-suc m n = go (ltb m n) refl
     go true e = let h = ltb-true m n e in lt-ltb (suc m) (suc n) (omega arith)
     go false e = let h = ltb-false m n e in le-ltb (suc m) (suc n) (omega arith)
 
-known-placed : (id : ℕ) (ls : List Line) → known id ls ≡ ltb (place-of id (ids ls)) (length (ids ls))
-unfolding known place-of
-known-placed id [] = refl
-known-placed id (l ∷ ls) = go (eqb (l .terms .id) id) (known-placed id ls)
+listed-placed : (id : ℕ) (is : List ℕ) → listed id is ≡ ltb (place-of id is) (length is)
+unfolding listed place-of
+listed-placed id [] = refl
+listed-placed id (i ∷ is) = go (eqb i id) (listed-placed id is)
   where
-    go : (b : Bool) → known id ls ≡ ltb (place-of id (ids ls)) (length (ids ls))
-        → (b || known id ls) ≡ ltb (cond b 0 (suc (place-of id (ids ls)))) (suc (length (ids ls)))
-    go true h = sym (lt-ltb 0 (suc (length (ids ls))) (omega arith))
-    go false h = h ∙ sym (ltb-suc (place-of id (ids ls)) (length (ids ls)))
+    go : (b : Bool) → listed id is ≡ ltb (place-of id is) (length is) → (b || listed id is) ≡ ltb (cond b 0 (suc (place-of id is))) (suc (length is))
+    go true h = sym (lt-ltb 0 (suc (length is)) (omega arith))
+    go false h = h ∙ sym (ltb-suc (place-of id is) (length is))
 
 placed-named : (id : ℕ) (ls : List Line) → ltb (place-of id (ids ls)) (length (ids ls)) ≡ true → Named id ls (place-of id (ids ls))
 unfolding Named place-of
@@ -65,11 +63,11 @@ abbrev pub Says : State → Event → Verdict → Type 0
 Says s e (Verdict.Refused why) = verdict s e ≡ EventAnswer.Refused why
 Says s e (Verdict.Taken v) = Takes s e v
 
-says-timely : (s : State) (e : Event) (t : Seconds) (x : EventAnswer) (v : Verdict) → verdict s e ≡ in-session s t x
+says-in-session : (s : State) (e : Event) (t : Seconds) (x : EventAnswer) (v : Verdict) → verdict s e ≡ in-session s t x
     → (verdict s e ≡ x → t .0 ≤ s .end .0 → Says s e v)
-    → Says s e (timely (s .end) (s .clock) t v)
-unfolding in-session timely
-says-timely s e t x v h g = go (leb (t .0) (s .end .0)) (leb (s .clock .0) (t .0)) refl refl
+    → Says s e (if-in-session (s .end) (s .clock) t v)
+unfolding in-session if-in-session
+says-in-session s e t x v h g = go (leb (t .0) (s .end .0)) (leb (s .clock .0) (t .0)) refl refl
   where
     go : (a b : Bool) → leb (t .0) (s .end .0) ≡ a → leb (s .clock .0) (t .0) ≡ b
         → Says s e (demand a (Verdict.Refused EventReason.AfterEnd) (demand b (Verdict.Refused EventReason.BeforeClock) v))
@@ -79,32 +77,32 @@ says-timely s e t x v h g = go (leb (t .0) (s .end .0)) (leb (s .clock .0) (t .0
 
 abbrev behind-time : State → Quote → EventAnswer
 behind-time s q =
-    demand (known (q .id) (s .lines)) (EventAnswer.Refused EventReason.UnknownId)
+    demand (known (q .id) s) (EventAnswer.Refused EventReason.UnknownId)
     (demand (not-crossed (q .bid) (q .ask)) (EventAnswer.Refused EventReason.Crossed) EventAnswer.Accepted)
 
-says-quote : (s : State) (q : Quote) → verdict s (Quoted q) ≡ behind-time s q → q .time .0 ≤ s .end .0 → Says s (Quoted q) (quote-screened (ids (s .lines)) q)
+says-quote : (s : State) (q : Quote) → verdict s (Quoted q) ≡ behind-time s q → q .time .0 ≤ s .end .0 → Says s (Quoted q) (quote-screened (session-ids s) q)
 unfolding quote-screened
-says-quote s q h i = go (ltb (place-of (q .id) (ids (s .lines))) (length (ids (s .lines)))) (not-crossed (q .bid) (q .ask)) refl refl
+says-quote s q h i = go (ltb (place-of (q .id) (session-ids s)) (length (session-ids s))) (not-crossed (q .bid) (q .ask)) refl refl
   where
-    k : known (q .id) (s .lines) ≡ ltb (place-of (q .id) (ids (s .lines))) (length (ids (s .lines)))
-    k = known-placed (q .id) (s .lines)
+    k : known (q .id) s ≡ ltb (place-of (q .id) (session-ids s)) (length (session-ids s))
+    k = listed-placed (q .id) (session-ids s)
 
-    go : (a b : Bool) → ltb (place-of (q .id) (ids (s .lines))) (length (ids (s .lines))) ≡ a → not-crossed (q .bid) (q .ask) ≡ b
+    go : (a b : Bool) → ltb (place-of (q .id) (session-ids s)) (length (session-ids s)) ≡ a → not-crossed (q .bid) (q .ask) ≡ b
         → Says s (Quoted q)
-        (demand a (Verdict.Refused EventReason.UnknownId) (demand b (Verdict.Refused EventReason.Crossed) (placed-quote (ids (s .lines)) q)))
+        (demand a (Verdict.Refused EventReason.UnknownId) (demand b (Verdict.Refused EventReason.Crossed) (placed-quote (session-ids s) q)))
     go false b ea eb = h ∙ (rw (k ∙ ea))
     go true false ea eb = h ∙ (rw (k ∙ ea, eb))
     go true true ea eb = record { accepted = h ∙ (rw (k ∙ ea, eb)); timed = refl; in-session = i; changes = (refl, placed-named (q .id) (s .lines) ea) }
 
-pub says : (s : State) (e : Event) → Says s e (screened (ids (s .lines)) (s .end) (s .clock) e)
+pub says : (s : State) (e : Event) → Says s e (screened (session-ids s) (s .end) (s .clock) e)
 unfolding screened
 says s Damaged = unfold verdict in refl
 says s (Tick t) =
-    says-timely s (Tick t) t EventAnswer.Accepted (Verdict.Taken (record { time = t; change = Change.Nothing })) (unfold verdict in refl) (λ h i. record { accepted = h; timed = refl; in-session = i; changes = refl })
+    says-in-session s (Tick t) t EventAnswer.Accepted (Verdict.Taken (record { time = t; change = Change.Nothing })) (unfold verdict in refl) (λ h i. record { accepted = h; timed = refl; in-session = i; changes = refl })
 says s (Quoted q) =
-    says-timely s (Quoted q) (q .time) (behind-time s q) (quote-screened (ids (s .lines)) q) (unfold verdict in refl) (says-quote s q)
+    says-in-session s (Quoted q) (q .time) (behind-time s q) (quote-screened (session-ids s) q) (unfold verdict in refl) (says-quote s q)
 
 -- the same, of the ids of a session
-pub session-says : (s : Session) {e said : Event} {js : List ℕ} {v : Verdict} → js ≡ ids (view s .lines) → said ≡ e → v ≡ screened js (s .end) (s .clock) said
+pub session-says : (s : Session) {e said : Event} {js : List ℕ} {v : Verdict} → js ≡ session-ids (view s) → said ≡ e → v ≡ screened js (s .end) (s .clock) said
     → Says (view s) e v
 session-says s {e} same heard ev = rw (ev, heard, same) (says (view s) e)

@@ -4,28 +4,24 @@ use mathlib.Core.List.{List, [], _∷_, _++_, map}
 use Prim.Native.Nat.{ℕ, _+_, _-_, _≤_, _<_}
 use native.Mathlib.Numerals.{add-one}
 use native.Mathlib.Omega.{arith}
-use lib.ListN.{length, getD, set, take, drop, length-map}
+use lib.ListN.{length, getD, take, drop, length-map}
 use Rattle.method.specs.words.Types.{State, blank}
 use Rattle.method.specs.words.Ranges.{longest-session}
-use Rattle.method.specs.computed.Shift.{shift-line, shifted, onward, after}
+use Rattle.method.specs.computed.Shift.{shift-line, with-lines, shifted, onward, after}
 use Rattle.method.proofs.Sane.{sane-shifted}
 use Rattle.corridor.specs.Names.{Side, Seconds, Line, ShiftLine}
 use Rattle.corridor.specs.declared.Session.{Session}
-use Rattle.corridor.specs.View.{view, put, Ranged}
+use Rattle.corridor.specs.View.{view, with-head, put, moved-on, with-line, Ranged}
 use Rattle.corridor.proofs.Rows.{changed, changed-at, changed-next, changed-view}
 use Rattle.corridor.proofs.Views.{ranged-length, ranged-put}
 
--- a session with other rows
-abbrev pub with-rows : Session → List Line → Session
-with-rows s ls = record { lines = ls; count = s .count; clock = s .clock; end = s .end; hold = s .hold; left = s .left; near = s .near }
-
 -- a turn of the loop: one more row is changed
-pub change-turn : (f : Line → Line) (s₀ s : Session) (i : ℕ) (m : Line) → s ≡ with-rows s₀ (changed f i (s₀ .lines)) → i < length (s₀ .lines)
-    → m ≡ f (getD (s .lines) i blank) → with-rows s (set (s .lines) i m) ≡ with-rows s₀ (changed f (i + 1) (s₀ .lines))
+pub change-turn : (f : Line → Line) (s₀ s : Session) (i : ℕ) (m : Line) → s ≡ moved-on s₀ (changed f i (s₀ .lines)) (s₀ .clock) → i < length (s₀ .lines)
+    → m ≡ f (getD (s .lines) i blank) → with-line s i m ≡ moved-on s₀ (changed f (i + 1) (s₀ .lines)) (s₀ .clock)
 change-turn f s₀ s i m e h em = rw (em, e, add-one, changed-at, changed-next f i (s₀ .lines) blank h)
 
 abbrev shifted-rows : Session → ℕ → List Line → Session
-shifted-rows s n ls = record { lines = ls; count = n; clock = s .clock; end = s .end; hold = s .hold; left = s .left - 1; near = s .near }
+shifted-rows s n ls = with-head (with-lines (view s) ls (s .left - 1) (s .clock)) n ls
 
 pub all-shifted : (side : Side) (now : Seconds) (s : Session) → Ranged s
     → shifted-rows s (s .count) (changed (shift-line (s .near) (s .left - 1) side now) (s .count) (s .lines)) ≡ put s (shifted side now (view s))

@@ -3,11 +3,10 @@ use mathlib.Core.Path.{_≡_, refl, sym, ap, _∙_}
 use mathlib.Core.List.{List, [], _∷_}
 use Prim.Native.Nat.{ℕ}
 use native.Mathlib.Omega.{arith}
-use Rattle.method.specs.words.Types.{State}
+use Rattle.method.specs.words.Types.{State, session-ids}
 use Rattle.method.specs.words.Tables.{Opening, opened}
 use Rattle.method.specs.words.Sessions.{Answer, accepted, refused}
 use Rattle.method.specs.told.Refusals.{table-said, event-said}
-use Rattle.method.specs.computed.Opening.{ids}
 use Rattle.method.specs.computed.Table.{opening}
 use Rattle.method.specs.computed.Event.{read, next}
 use Rattle.method.specs.computed.Relation.{Right, Answers}
@@ -20,7 +19,7 @@ use Rattle.method.proofs.Books.{distinct-opening}
 use Rattle.method.proofs.Answers.{sound-opening, next-sound, run-right}
 use Rattle.method.proofs.Later.{sane-next}
 use Rattle.corridor.specs.Names.{TableAnswer, TableReason}
-use Rattle.corridor.specs.declared.Opened.{Opened}
+use Rattle.corridor.specs.declared.OpenReply.{OpenReply}
 use Rattle.corridor.specs.View.{view, no-session, opened-session, Valid}
 use Rattle.corridor.specs.Reply.{reply-of}
 use Rattle.corridor.specs.Handed.{opened-by, OpenValid, RefusedOpensNone, EventValid, OpenSays, EventSays}
@@ -37,13 +36,13 @@ unfolding opened-session
 valid-open b = go (opening b) (λ s q. accepted-table b s q .state) (λ s q. sound-opening b s q) (λ s q. distinct-opening b s q)
   where
     go : (x : Opening) → ((s : State) → x ≡ opened s → OpeningIn s) → ((s : State) → x ≡ opened s → Sound s)
-        → ((s : State) → x ≡ opened s → Distinct (ids (s .lines))) → opened-session x .answer ≡ TableAnswer.Opened → Valid (opened-session x .session)
+        → ((s : State) → x ≡ opened s → Distinct (session-ids s)) → opened-session x .answer ≡ TableAnswer.Opened → Valid (opened-session x .session)
     go (opened s) i o d e = valid-put no-session s refl (i s refl .count .most) (sane-opening s (i s refl)) (o s refl) (d s refl)
     go (Opening.refused why line) i o d e = absurd (not-both (sym e))
 
 -- the same of what `open` hands back
-pub valid-opened : (b : List ℕ) {r : Opened} → r ≡ opened-by b → r .answer ≡ TableAnswer.Opened → Valid (r .session)
-valid-opened b e said = rw e (valid-open b (sym (ap (λ (z : Opened). z .answer) e) ∙ said))
+pub valid-opened : (b : List ℕ) {r : OpenReply} → r ≡ opened-by b → r .answer ≡ TableAnswer.Opened → Valid (r .session)
+valid-opened b e said = rw e (valid-open b (sym (ap (λ (z : OpenReply). z .answer) e) ∙ said))
 
 pub refused-opens-none : RefusedOpensNone
 unfolding opened-session

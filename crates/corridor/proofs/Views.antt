@@ -5,27 +5,20 @@ use Prim.Native.Nat.{ℕ, _-_, _≤_}
 use native.Mathlib.Omega.{arith}
 use lib.ListN.{length, take, drop, length-append, length-drop, take-append-drop}
 use lib.Seq.{take-append-seam, drop-append-seam, length-take-le}
-use Rattle.method.specs.words.Types.{State}
-use Rattle.method.specs.computed.Opening.{ids}
+use Rattle.method.specs.words.Types.{State, session-ids}
+use Rattle.method.specs.computed.Shift.{with-lines}
 use Rattle.method.specs.computed.Rooms.{Sane}
 use Rattle.method.specs.computed.Sound.{Sound, Distinct}
 use Rattle.corridor.specs.Names.{Line}
 use Rattle.corridor.specs.declared.Session.{Session}
-use Rattle.corridor.specs.View.{view, put, Ranged, Valid}
-
--- the state, and the session, with other lines
-abbrev lines-of : State → List Line → State
-lines-of x ls = record { lines = ls; clock = x .clock; end = x .end; hold = x .hold; left = x .left; near = x .near }
-
-abbrev rows : State → ℕ → List Line → Session
-rows x n ls = record { lines = ls; count = n; clock = x .clock; end = x .end; hold = x .hold; left = x .left; near = x .near }
+use Rattle.corridor.specs.View.{view, with-head, put, Ranged, Valid}
 
 pub view-put : (s : Session) (x : State) → view (put s x) ≡ x
-view-put s x = ap (lines-of x) (take-append-seam (x .lines) (drop (length (x .lines)) (s .lines)))
+view-put s x = ap (λ (ls : List Line). with-lines x ls (x .left) (x .clock)) (take-append-seam (x .lines) (drop (length (x .lines)) (s .lines)))
 
 pub put-put : (s : Session) (x y : State) → length (y .lines) ≡ length (x .lines) → put (put s x) y ≡ put s y
 put-put s x y e =
-    ap (λ (zs : List Line). rows y (length (y .lines)) (y .lines ++ zs))
+    ap (λ (zs : List Line). with-head y (length (y .lines)) (y .lines ++ zs))
     (ap (λ (n : ℕ). drop n (x .lines ++ drop (length (x .lines)) (s .lines))) e ∙ drop-append-seam (x .lines) (drop (length (x .lines)) (s .lines))
     ∙ ap (λ (n : ℕ). drop n (s .lines)) (sym e))
 
@@ -40,8 +33,8 @@ view-length v = ranged-length (ranged v)
 
 pub put-view : {s : Session} → Valid s → put s (view s) ≡ s
 put-view {s} v =
-    ap (λ (n : ℕ). rows (view s) n (take (s .count) (s .lines) ++ drop n (s .lines))) (view-length v)
-    ∙ ap (rows (view s) (s .count)) (take-append-drop (s .count) (s .lines))
+    ap (λ (n : ℕ). with-head (view s) n (take (s .count) (s .lines) ++ drop n (s .lines))) (view-length v)
+    ∙ ap (with-head (view s) (s .count)) (take-append-drop (s .count) (s .lines))
 
 pub ranged-put : (s : Session) (x : State) → length (s .lines) ≡ 32 → length (x .lines) ≤ 32 → Sane x → Ranged (put s x)
 ranged-put s x full few w =
@@ -50,7 +43,7 @@ ranged-put s x full few w =
     open-places : length (drop (length (x .lines)) (s .lines)) ≡ 32 - length (x .lines)
     open-places = length-drop (length (x .lines)) (s .lines) ∙ ap (λ (n : ℕ). n - length (x .lines)) full
 
-pub valid-put : (s : Session) (x : State) → length (s .lines) ≡ 32 → length (x .lines) ≤ 32 → Sane x → Sound x → Distinct (ids (x .lines)) → Valid (put s x)
+pub valid-put : (s : Session) (x : State) → length (s .lines) ≡ 32 → length (x .lines) ≤ 32 → Sane x → Sound x → Distinct (session-ids x) → Valid (put s x)
 valid-put s x full few w o d =
     let r = ranged-put s x full few w in
-    record { full = r .full; few = r .few; sane = r .sane; sound = rw (view-put s x) o; distinct = subst (λ (y : State). Distinct (ids (y .lines))) (sym (view-put s x)) d }
+    record { full = r .full; few = r .few; sane = r .sane; sound = rw (view-put s x) o; distinct = subst (λ (y : State). Distinct (session-ids y)) (sym (view-put s x)) d }

@@ -7,12 +7,9 @@ use Rattle.method.specs.computed.Event.{with-book, quoted-line}
 use Rattle.verdict.specs.declared.Change.{Change}
 use Rattle.verdict.specs.declared.Taken.{Taken}
 use Rattle.pressure.specs.Asks.{Pressed}
-use Rattle.corridor.specs.Names.{Seconds, Line}
+use Rattle.corridor.specs.Names.{Line}
 use Rattle.corridor.specs.declared.Session.{Session}
-
--- the session s with other lines and another clock
-abbrev pub moved-on : Session → List Line → Seconds → Session
-moved-on s ls t = record { lines = ls; count = s .count; clock = t; end = s .end; hold = s .hold; left = s .left; near = s .near }
+use Rattle.corridor.specs.View.{moved-on}
 
 abbrev pub lines-after : Session → Change → List Line
 lines-after s Change.Nothing = s .lines

@@ -10,7 +10,7 @@ use Rattle.method.specs.words.Tables.{opened, TableAnswered}
 use Rattle.method.specs.words.Sessions.{Answer, AnswersInWords}
 use Rattle.method.specs.computed.Table.{opening}
 use Rattle.method.specs.computed.Event.{read}
-use Rattle.method.specs.computed.Search.{answered, answer, run, finally}
+use Rattle.method.specs.computed.Search.{as-answer, answer, run, finally}
 use Rattle.method.specs.computed.Sound.{Proper}
 use Rattle.corridor.specs.declared.Session.{Session}
 use Rattle.corridor.specs.declared.Reply.{Reply}
@@ -23,7 +23,7 @@ reply-to s b = reply-of s (read b) (answer (view s) (read b))
 
 -- a reply's answer with its shift lines, as the method has it
 abbrev pub answer-in : Reply → Answer
-answer-in r = answered (r .answer) (take (r .made) (r .shifts))
+answer-in r = as-answer (r .answer) (take (r .made) (r .shifts))
 
 -- each byte string is handed to the session that the one before it left
 unfoldable pub one-by-one : Session → List (List ℕ) → List Answer

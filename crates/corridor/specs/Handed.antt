@@ -12,12 +12,12 @@ use Rattle.method.specs.computed.Event.{read}
 use Rattle.method.specs.computed.Search.{answer}
 use Rattle.corridor.specs.Names.{TableAnswer, TableReason, EventReason}
 use Rattle.corridor.specs.declared.Session.{Session}
-use Rattle.corridor.specs.declared.Opened.{Opened}
+use Rattle.corridor.specs.declared.OpenReply.{OpenReply}
 use Rattle.corridor.specs.View.{view, opened-session, Valid}
 use Rattle.corridor.specs.Engine.{reply-to}
 
 -- what `open` promises of the bytes of a table
-abbrev pub opened-by : List ℕ → Opened
+abbrev pub opened-by : List ℕ → OpenReply
 opened-by b = opened-session (opening b)
 
 -- The session of a table that `open` accepts is valid, so that every function of a session takes it. [valid-open]

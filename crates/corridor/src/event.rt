@@ -2,7 +2,7 @@
 
 ghost use mathlib.Core.Path.{_≡_};
 ghost use lib.ListN.{length, take};
-ghost use Rattle.method.specs.computed.Opening.{ids};
+ghost use Rattle.method.specs.words.Types.{session-ids};
 ghost use Rattle.method.specs.computed.Event.{read};
 ghost use Rattle.method.specs.computed.Search.{answer};
 ghost use Rattle.corridor.specs.View.{view, Valid};
@@ -19,7 +19,7 @@ impl Session {
     // The ids of the lines in their order, which is all that the screen asks of a session.
     pub fn ids(self) -> [u32; 32]
         requires { ⌜ Valid self ⌝ }
-        ensures { λ r. ⌜ (length r ≡ 32) × (take (self .count) r ≡ ids (view self .lines)) ⌝ }
+        ensures { λ r. ⌜ (length r ≡ 32) × (take (self .count) r ≡ session-ids (view self)) ⌝ }
     {
         let n = self.count;
         let mut got: [u32; 32] = [0; 32];
@@ -45,7 +45,7 @@ impl Session {
                 let near = self.near;
                 let q = p.quote;
                 let place = p.place;
-                let m = shifts::shift::quoted_line(near, self.left, q, self.lines[place]);
+                let m = shifts::quoted_line(near, self.left, q, self.lines[place]);
                 self.lines[place] = m;
                 return self;
             }

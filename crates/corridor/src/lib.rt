@@ -27,7 +27,7 @@ pub struct Session {
 
 // The answer to a table, and beside it the session. A refused table opens none: what stands beside it has no lines and hold seconds 0, which
 // no session has, so that no function takes it.
-pub struct Opened {
+pub struct OpenReply {
     pub answer: TableAnswer,
     pub session: Session,
 }
@@ -55,7 +55,7 @@ pub const NO_SHIFT: ShiftLine = ShiftLine {
 };
 
 // Opens a session from the bytes of a morning table.
-pub fn open(bytes: &[u8]) -> Opened
+pub fn open(bytes: &[u8]) -> OpenReply
     ensures { λ r. ⌜ r ≡ opened-session (opening (now (bytes .entry))) ⌝ }
 {
     let o = table::open(bytes);
@@ -64,7 +64,7 @@ pub fn open(bytes: &[u8]) -> Opened
     let end = o.end;
     let hold = o.hold;
     let near = o.near;
-    Opened {
+    OpenReply {
         answer: answer,
         session: Session {
             lines: lines,

@@ -3,7 +3,7 @@
 ghost use mathlib.Core.Path.{_≡_};
 ghost use Prim.Native.Nat.{_<_};
 ghost use Rattle.method.specs.computed.Shift.{shifted};
-ghost use Rattle.method.specs.computed.Search.{serve};
+ghost use Rattle.method.specs.computed.Search.{served-by};
 ghost use Rattle.corridor.specs.View.{view, put, Ranged, Valid};
 ghost use Rattle.corridor.specs.Reply.{served-as};
 use crate::Served;
@@ -23,7 +23,7 @@ impl Session {
         let near = self.near;
         let left = self.left - 1;
         for place in 0..n {
-            let m = shifts::shift::shift_line(near, left, side, now, self.lines[place]);
+            let m = shifts::shift_line(near, left, side, now, self.lines[place]);
             self.lines[place] = m;
         }
         self.left = left;
@@ -33,7 +33,7 @@ impl Session {
     // Every hold that is due at or before t is served. A shift ends holds and starts others, so the search starts anew after each.
     pub fn served(mut self, t: Seconds) -> Served
         requires { ⌜ Valid self ⌝ }
-        ensures { λ r. ⌜ r ≡ served-as self (serve (self .left) t (view self)) ⌝ }
+        ensures { λ r. ⌜ r ≡ served-as self (served-by t (view self)) ⌝ }
     {
         let n = self.count;
         let wait = self.hold;

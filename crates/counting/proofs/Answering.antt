@@ -13,17 +13,17 @@ use Rattle.corridor.specs.declared.Session.{Session}
 use Rattle.feeding.specs.declared.Fed.{Fed}
 use Rattle.corridor.specs.View.{view, Valid}
 use Rattle.closing.specs.Closing.{closing-numbers, closed, closed-into}
-use Rattle.feeding.specs.Feeding.{room, fed}
+use Rattle.feeding.specs.Feeding.{feed-needs, fed}
 use Rattle.corridor.proofs.Views.{view-length}
 use Rattle.feeding.proofs.Chunks.{fed-is, told-fits}
-use Rattle.counting.specs.declared.Told.{Told}
-use Rattle.counting.specs.Answered.{number-in, answered}
+use Rattle.counting.specs.declared.Counted.{Counted}
+use Rattle.counting.specs.Counted.{number-in, counted}
 
-pub answered-is : (s : Session) (b : List ℕ) (size : ℕ) {r : Fed} {n : ℕ} → room (length b) ≤ size → r ≡ fed s size b → n ≡ number-in (r .answer)
-    → _≡_ {A = Told} (record { count = n; session = r .session }) (answered s b)
-answered-is s b size fits e q = rw (q, e ∙ fed-is s size b fits)
+pub counted-is : (s : Session) (b : List ℕ) (size : ℕ) {r : Fed} {n : ℕ} → feed-needs (length b) ≤ size → r ≡ fed s size b → n ≡ number-in (r .answer)
+    → _≡_ {A = Counted} (record { count = n; session = r .session }) (counted s b)
+counted-is s b size fits e q = rw (q, e ∙ fed-is s size b fits)
 
-pub count-fits : (s : Session) (b : List ℕ) {r : Told} → Valid s → r ≡ answered s b → r .count ≤ room (length b)
+pub count-fits : (s : Session) (b : List ℕ) {r : Counted} → Valid s → r ≡ counted s b → r .count ≤ feed-needs (length b)
 count-fits s b v e = rw e (told-fits s b v)
 
 -- ---- the closing rows

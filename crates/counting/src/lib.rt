@@ -6,9 +6,9 @@ ghost use Prim.Native.Nat.{_≤_};
 ghost use lib.ListN.{length};
 ghost use Rattle.rows.specs.Buffer.{written};
 ghost use Rattle.corridor.specs.View.{Valid};
-ghost use Rattle.feeding.specs.Feeding.{room, told};
+ghost use Rattle.feeding.specs.Feeding.{feed-needs, told};
 ghost use Rattle.closing.specs.Closing.{closing-numbers};
-ghost use Rattle.counting.specs.Answered.{number-in, answered};
+ghost use Rattle.counting.specs.Counted.{number-in, counted};
 use corridor::Session;
 use rows::RowsAnswer;
 
@@ -23,22 +23,22 @@ pub fn number_in(answer: RowsAnswer) -> usize
 }
 
 // How many numbers the answers to a chunk have, and the session that it leaves.
-pub struct Told {
+pub struct Counted {
     pub count: usize,
     pub session: Session,
 }
 
 // A chunk's answers, for which the room is there.
-pub fn answered(s: Session, chunk: &[u8], numbers: &mut [i64]) -> Told
-    requires { ⌜ Valid s × (room (length (now chunk)) ≤ length (now numbers)) ⌝ }
-    ensures { λ r. ⌜ r ≡ answered s (now (chunk .entry)) ⌝ }
+pub fn fed(s: Session, chunk: &[u8], numbers: &mut [i64]) -> Counted
+    requires { ⌜ Valid s × (feed-needs (length (now chunk)) ≤ length (now numbers)) ⌝ }
+    ensures { λ r. ⌜ r ≡ counted s (now (chunk .entry)) ⌝ }
     ensures { λ _. ⌜ now (numbers .exit) ≡ written (now (numbers .entry)) 0 (told s (now (chunk .entry))) ⌝ }
 {
     let r = feeding::feed(s, chunk, numbers);
     let answer = r.answer;
     let count = number_in(answer);
     let session = r.session;
-    Told {
+    Counted {
         count: count,
         session: session,
     }

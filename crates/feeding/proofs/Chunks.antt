@@ -17,7 +17,7 @@ use Rattle.method.specs.told.Program.{pieces, events-of}
 use Rattle.method.specs.computed.Event.{read, next}
 use Rattle.method.specs.computed.Search.{answer, run, finally}
 use Rattle.method.specs.declared.Row.the-variants as Row
-use Rattle.method.proofs.Answers.{run-right, answers-count, run-append, finally-append}
+use Rattle.method.proofs.Answers.{run-right, answers-spend, run-append, finally-append}
 use Rattle.method.proofs.Demands.{by-cond}
 use Rattle.rows.specs.Buffer.{written}
 use Rattle.rows.proofs.Buffer.{written-long, written-on, written-rest, numbers-long, numbers-append}
@@ -25,7 +25,7 @@ use Rattle.corridor.specs.declared.Session.{Session}
 use Rattle.rows.specs.declared.RowsAnswer.{RowsAnswer}
 use Rattle.feeding.specs.declared.Fed.{Fed}
 use Rattle.corridor.specs.View.{view, put, Valid}
-use Rattle.feeding.specs.Feeding.{room, answers-told, told, left-by, fed, fed-into, ToldFits, FeedValid, FeedingIsTheSame}
+use Rattle.feeding.specs.Feeding.{feed-needs, answers-told, told, left-by, fed, fed-into, ToldFits, FeedValid, FeedingIsTheSame}
 use Rattle.feeding.specs.Chunks.{FeedOn}
 use Rattle.corridor.proofs.Views.{view-put, put-put}
 use Rattle.corridor.proofs.Events.{finally-kept}
@@ -60,7 +60,7 @@ told-fits s b v =
       rows-few rs,
       run-length (view s) (events-of b),
       pieces-length ((length b + 19) / 20) b,
-      answers-count (view s) (events-of b) rs (v .sound) (run-right (view s) (events-of b) (v .sound)),
+      answers-spend (view s) (events-of b) rs (v .sound) (run-right (view s) (events-of b) (v .sound)),
       v .sane .left,
     )
 
@@ -106,18 +106,18 @@ module _ (s : Session) (xs ys : List ℕ) (k : ℕ) (whole : length xs ≡ 20 * 
       ∙ ap (λ (x : State). put (left-by s xs) (finally x (events-of ys))) (sym seen)
 
 -- ---- the same, said of `feed`
-pub fed-is : (s : Session) (size : ℕ) (b : List ℕ) → room (length b) ≤ size → fed s size b ≡ record { answer = RowsAnswer.Written (length (told s b)); session = left-by s b }
+pub fed-is : (s : Session) (size : ℕ) (b : List ℕ) → feed-needs (length b) ≤ size → fed s size b ≡ record { answer = RowsAnswer.Written (length (told s b)); session = left-by s b }
 unfolding fed
-fed-is s size b h = rw (le-ltb size (room (length b)) h)
+fed-is s size b h = rw (le-ltb size (feed-needs (length b)) h)
 
-pub fed-into-is : (s : Session) (out : List ℤ) (b : List ℕ) → room (length b) ≤ length out → fed-into s out b ≡ written out 0 (told s b)
+pub fed-into-is : (s : Session) (out : List ℤ) (b : List ℕ) → feed-needs (length b) ≤ length out → fed-into s out b ≡ written out 0 (told s b)
 unfolding fed-into
-fed-into-is s out b h = rw (le-ltb (length out) (room (length b)) h)
+fed-into-is s out b h = rw (le-ltb (length out) (feed-needs (length b)) h)
 
 pub valid-feed : FeedValid
 unfolding fed
 valid-feed s size b v =
-    by-cond (λ (r : Fed). Valid (r .session)) (ltb size (room (length b))) (λ e. v) (λ e. valid-left s b v)
+    by-cond (λ (r : Fed). Valid (r .session)) (ltb size (feed-needs (length b))) (λ e. v) (λ e. valid-left s b v)
 
 pub feed-on : FeedOn
 feed-on s xs ys out k whole v =
@@ -126,14 +126,14 @@ feed-on s xs ys out k whole v =
       numbers = numbers;
     }
   where
-    numbers : room (length xs) ≤ length out → room (length ys) ≤ length out - length (told s xs) → room (length (xs ++ ys)) ≤ length out
+    numbers : feed-needs (length xs) ≤ length out → feed-needs (length ys) ≤ length out - length (told s xs) → feed-needs (length (xs ++ ys)) ≤ length out
         → take (length (told s xs)) (fed-into s out xs) ++ fed-into (fed s (length out) xs .session) (drop (length (told s xs)) (fed-into s out xs)) ys
         ≡ fed-into s out (xs ++ ys)
     numbers h g i =
         let at : ℕ = length (told s xs) in
         let first : List ℤ = written out 0 (told s xs) in
         let fits : 0 + length (told s xs) ≤ length out = omega (arith, told-fits s xs v) in
-        let rest : room (length ys) ≤ length (drop at first) = omega (arith, length-drop at first, written-long out 0 (told s xs) fits) in
+        let rest : feed-needs (length ys) ≤ length (drop at first) = omega (arith, length-drop at first, written-long out 0 (told s xs) fits) in
         rw (fed-is s (length out) xs h, fed-into-is s out xs h, fed-into-is (left-by s xs) (drop at first) ys rest, fed-into-is s out (xs ++ ys) i)
         (written-rest first at (told (left-by s xs) ys) ∙ ap (λ (j : ℕ). written first j (told (left-by s xs) ys)) (sym (zero-add at))
         ∙ written-on out 0 (told s xs) fits (told (left-by s xs) ys) ∙ ap (written out 0) (sym (told-on s xs ys k whole)))

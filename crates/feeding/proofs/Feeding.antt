@@ -14,12 +14,13 @@ use Rattle.method.specs.words.Types.{State}
 use Rattle.method.specs.words.Sessions.{Answer, accepted, refused}
 use Rattle.method.specs.told.Rows.{rows-of, rows-of-all, numbers-of}
 use Rattle.method.specs.told.Program.{pieces, events-of}
+use Rattle.method.specs.computed.Shift.{most-left}
 use Rattle.method.specs.computed.Event.{read, next}
 use Rattle.method.specs.computed.Relation.{Right, Answers}
 use Rattle.method.specs.computed.Search.{answer, run, finally}
 use Rattle.method.specs.declared.Row.{Row}
 use Rattle.method.specs.declared.Row.the-variants as Row
-use Rattle.method.proofs.Answers.{next-count, run-right}
+use Rattle.method.proofs.Answers.{next-spend, run-right}
 use Rattle.rows.specs.Buffer.{written}
 use Rattle.rows.proofs.Buffer.{nothing-written, written-on, written-long, numbers-long, numbers-append}
 use Rattle.feeding.specs.Names.{ShiftLine, EventAnswer}
@@ -28,7 +29,7 @@ use Rattle.corridor.specs.declared.Reply.{Reply}
 use Rattle.rows.specs.declared.RowsAnswer.{RowsAnswer}
 use Rattle.corridor.specs.View.{view, put, Valid}
 use Rattle.corridor.specs.Reply.{no-shift, reply-of}
-use Rattle.feeding.specs.Feeding.{room, answers-told, fed, fed-into}
+use Rattle.feeding.specs.Feeding.{feed-needs, answers-told, fed, fed-into}
 use Rattle.corridor.proofs.Views.{view-put, put-put, put-view}
 use Rattle.corridor.proofs.Events.{finally-kept}
 use Rattle.corridor.proofs.Theorems.{valid-event}
@@ -58,9 +59,9 @@ module _ (o : Session) (b : List ℕ) (out : List ℤ) where
     pub session : put o (finally (view o) (events-of b)) ≡ put s (finally (view s) (events-of (drop from b)))
     pub here : now ≡ written out 0 done
     pub long : length done ≡ at
-    pub left : at + 6 * ((length b - from + 19) / 20 + s .left) ≤ length out
+    pub left : at + 6 * ((length b - from + 19) / 20 + most-left (view s)) ≤ length out
 
-  pub ahead-start : Valid o → room (length b) ≤ length out → Ahead o 0 0 out
+  pub ahead-start : Valid o → feed-needs (length b) ≤ length out → Ahead o 0 0 out
   ahead-start v h =
       record {
         done = [];
@@ -94,7 +95,7 @@ module _ (o : Session) (b : List ℕ) (out : List ℤ) where
     state-there = ap (finally (view s)) there
 
     step : (x : Session) (rows : List Row) (k : ℕ) {then : List ℤ} → Valid x → view x ≡ next (view s) (read piece) a
-        → ((y : State) → length (y .lines) ≡ length (view x .lines) → put s y ≡ put x y) → rows ≡ rows-of a → k ≡ length rows → k + x .left ≤ 1 + s .left
+        → ((y : State) → length (y .lines) ≡ length (view x .lines) → put s y ≡ put x y) → rows ≡ rows-of a → k ≡ length rows → k + most-left (view x) ≤ 1 + most-left (view s)
         → then ≡ written now at (numbers-of rows) → Ahead x (at + 6 * k) to then
     step x rows k v same puts told count few wrote =
         let rest : List (List ℕ) = events-of (drop to b) in
@@ -124,7 +125,7 @@ module _ (o : Session) (b : List ℕ) (out : List ℤ) where
         let x : State = next (view s) (read piece) (accepted cs) in
         step (put s x) (map Row.Shift cs) (length cs) v (view-put s x ∙ ap (next (view s) (read piece)) (sym p))
         (λ y e. sym (put-put s x y (e ∙ ap (λ (z : State). length (z .lines)) (view-put s x))))
-        (rw p (unfold rows-of in refl)) (sym (length-map cs Row.Shift)) (omega (arith, next-count (view s) (read piece) (accepted cs) (h .valid .sound) r))
+        (rw p (unfold rows-of in refl)) (sym (length-map cs Row.Shift)) (omega (arith, next-spend (view s) (read piece) (accepted cs) (h .valid .sound) r, ap most-left (view-put s x)))
         (wrote ∙ ap (λ (ds : List ShiftLine). written now at (numbers-of (map Row.Shift ds))) (padded-take 16 no-shift cs))
     replied (refused why) p r v then wrote =
         step s (Row.RefusedEvent why ∷ []) 1 v (rw p (unfold next in refl)) (λ y e. refl) (rw p (unfold rows-of in refl)) refl (omega arith) wrote
@@ -139,7 +140,7 @@ module _ (o : Session) (b : List ℕ) (out : List ℤ) where
         (replied a refl right (valid-event s piece (h .valid)) then
         (wrote ∙ ap (λ (q : Reply). written now at (numbers-of (reply-rows (q .answer) (q .shifts) (q .made)))) e))
 
-  module _ {s : Session} {at from : ℕ} {now : List ℤ} (h : Ahead s at from now) (last : from ≡ length b) (enough : room (length b) ≤ length out) where
+  module _ {s : Session} {at from : ℕ} {now : List ℤ} (h : Ahead s at from now) (last : from ≡ length b) (enough : feed-needs (length b) ≤ length out) where
     none-left : events-of (drop from b) ≡ []
     unfolding pieces
     none-left = rw (last, drop-length b)
@@ -154,16 +155,16 @@ module _ (o : Session) (b : List ℕ) (out : List ℤ) where
 
     pub all-fed : record { answer = RowsAnswer.Written at; session = s } ≡ fed o (length out) b
     unfolding fed
-    all-fed = rw (le-ltb (length out) (room (length b)) enough, told-all, state-all, h .long) refl
+    all-fed = rw (le-ltb (length out) (feed-needs (length b)) enough, told-all, state-all, h .long) refl
 
     pub all-into : now ≡ fed-into o out b
     unfolding fed-into
-    all-into = rw (le-ltb (length out) (room (length b)) enough, told-all) (h .here)
+    all-into = rw (le-ltb (length out) (feed-needs (length b)) enough, told-all) (h .here)
 
 -- ---- where the room is not there
-module _ (s : Session) (out : List ℤ) (b : List ℕ) {k : ℕ} (e : k ≡ room (length b)) (h : length out < k) where
-  short : ltb (length out) (room (length b)) ≡ true
-  short = lt-ltb (length out) (room (length b)) (omega arith)
+module _ (s : Session) (out : List ℤ) (b : List ℕ) {k : ℕ} (e : k ≡ feed-needs (length b)) (h : length out < k) where
+  short : ltb (length out) (feed-needs (length b)) ≡ true
+  short = lt-ltb (length out) (feed-needs (length b)) (omega arith)
 
   pub nothing-fed : record { answer = RowsAnswer.NoRoom k; session = s } ≡ fed s (length out) b
   unfolding fed

@@ -16,10 +16,10 @@ use Rattle.method.specs.words.Holds.{Stands, Done}
 use Rattle.method.specs.computed.Shift.{after}
 use Rattle.method.specs.computed.Event.{applied}
 use Rattle.method.specs.computed.Relation.{Calls}
-use Rattle.method.specs.computed.Search.{serve}
+use Rattle.method.specs.computed.Search.{served-by}
 use Rattle.method.proofs.HoldLife.{Judged, no-since, blank-idle}
-use Rattle.method.proofs.Serving.{serve-calls, calls-unique}
-use Rattle.method.proofs.Answers.{applied-kept}
+use Rattle.method.proofs.Serving.{served-one}
+use Rattle.method.proofs.Head.{applied-kept}
 use Rattle.corridor.specs.declared.Session.{Session}
 use Rattle.corridor.specs.declared.Served.{Served}
 use Rattle.corridor.specs.View.{view, Valid}
@@ -36,8 +36,8 @@ pub record Quiet (q : Seconds) (s : State) : Type 0 where
 pub quiet-start : (s : State) → Quiet (seconds 0) s
 quiet-start s = record { none-before = λ x k. omega arith }
 
-pub quiet-serves : (q t : Seconds) (s : State) → Judged s → Quiet q s → t .0 < q .0 → serve (s .left) t s ≡ []
-quiet-serves q t s j h g = calls-unique t s (serve (s .left) t s) [] (serve-calls (s .left) t s refl j) (unfold Calls in none)
+pub quiet-serves : (q t : Seconds) (s : State) → Judged s → Quiet q s → t .0 < q .0 → served-by t s ≡ []
+quiet-serves q t s j h g = served-one t s [] j (unfold Calls in none)
   where
     none : Done t s
     none = unfold Done in λ x k e. let r = h .none-before x k in omega arith
@@ -133,7 +133,7 @@ pub served-path : {shifts shifts′ : List ShiftLine} {made made′ : ℕ} {sess
     → _≡_ {A = Served} (record { shifts = shifts; made = made; session = session }) (record { shifts = shifts′; made = made′; session = session′ })
 served-path a b c = λ i. record { shifts = a i; made = b i; session = c i }
 
-pub idle : (s : Session) (t : Seconds) → Valid s → serve (s .left) t (view s) ≡ []
-    → _≡_ {A = Served} (record { shifts = replicate 16 no-shift; made = 0; session = s }) (served-as s (serve (s .left) t (view s)))
+pub idle : (s : Session) (t : Seconds) → Valid s → served-by t (view s) ≡ []
+    → _≡_ {A = Served} (record { shifts = replicate 16 no-shift; made = 0; session = s }) (served-as s (served-by t (view s)))
 unfolding after
 idle s t v e = rw e (served-path refl refl (sym (put-view v)))

@@ -6,17 +6,16 @@ use native.Mathlib.Omega.{arith}
 use lib.IntN.{ℤ}
 use lib.ListN.{length, getD, set, take, drop, replicate}
 use lib.Seq.{getD-take, getD-set-same}
-use Rattle.method.specs.words.Types.{State, blank, seconds}
+use Rattle.method.specs.words.Types.{State, blank, seconds, session-ids}
 use Rattle.method.specs.told.Rows.{row-numbers, numbers-of}
-use Rattle.method.specs.computed.Opening.{ids}
-use Rattle.method.specs.computed.Shift.{after}
+use Rattle.method.specs.computed.Shift.{after, most-left}
 use Rattle.method.specs.computed.Event.{read, verdict, quoted-line, applied}
 use Rattle.method.specs.computed.Relation.{time}
-use Rattle.method.specs.computed.Search.{serve}
+use Rattle.method.specs.computed.Search.{served-by}
 use Rattle.method.specs.computed.Rooms.{HoldsIn}
 use Rattle.method.specs.declared.Row.the-variants as Row
 use Rattle.method.specs.words.Ranges.{longest-hold}
-use Rattle.method.proofs.Serving.{serve-calls, calls-left}
+use Rattle.method.proofs.Serving.{served-calls, calls-spend}
 use Rattle.rows.specs.Buffer.{written}
 use Rattle.rows.proofs.Buffer.{nothing-written, numbers-one}
 use Rattle.verdict.specs.declared.Change.{Change}
@@ -26,10 +25,10 @@ use Rattle.feeding.specs.Names.{Seconds, Line, Quote, ShiftLine, Event, 
 use Rattle.corridor.specs.declared.Session.{Session}
 use Rattle.corridor.specs.declared.Served.{Served}
 use Rattle.corridor.specs.declared.Reply.{Reply}
-use Rattle.corridor.specs.View.{view, Ranged, Valid}
+use Rattle.corridor.specs.View.{view, Ranged, Valid, moved-on}
 use Rattle.due.specs.Quiet.{until}
 use Rattle.corridor.specs.Reply.{no-shift, served-as, refused-with}
-use Rattle.feeding.specs.Feeding.{room}
+use Rattle.feeding.specs.Feeding.{feed-needs}
 use Rattle.corridor.proofs.Views.{view-put, ranged, ranged-length}
 use Rattle.corridor.proofs.Due.{row-passes}
 use Rattle.corridor.proofs.DueServed.{ranged-served}
@@ -37,7 +36,7 @@ use Rattle.corridor.proofs.Gathered.{ids-after, ids-applied}
 use Rattle.corridor.proofs.Named.{Named, named-below, named-quoted}
 use Rattle.corridor.proofs.Saying.{Changes, Takes}
 use Rattle.feeding.proofs.Quiet.{Quiet, quiet-start, quiet-serves, quiet-tick, quiet-quoted, served-path, idle}
-use Rattle.corridor.specs.Applied.{moved-on, lines-after}
+use Rattle.corridor.specs.Applied.{lines-after}
 use Rattle.corridor.proofs.Events.{reply, refused-is, accepted, handed, changes-after, event-taken}
 use Rattle.corridor.proofs.Theorems.{valid-event}
 use Rattle.events.proofs.Cutting.{Cut, fewer}
@@ -47,7 +46,7 @@ use Rattle.feeding.proofs.Feeding.{Ahead, ahead-start, ahead-turn, ahea
 pub record Caught (s : Session) (t : Seconds) (at : ℕ) (now : List ℤ) (s′ : Session) (quiet : Seconds) (at′ : ℕ) (now′ : List ℤ) : Type 0 where
   pub shifts : List ShiftLine
   pub made : ℕ
-  pub served : _≡_ {A = Served} (record { shifts = shifts; made = made; session = s′ }) (served-as s (serve (s .left) t (view s)))
+  pub served : _≡_ {A = Served} (record { shifts = shifts; made = made; session = s′ }) (served-as s (served-by t (view s)))
   pub on : at′ ≡ at + 6 * made
   pub told : now′ ≡ written now at (numbers-of (map Row.Shift (take made shifts)))
   pub none-due : Quiet quiet (view s′)
@@ -66,7 +65,7 @@ module _ (s : Session) (t : Seconds) (at : ℕ) (now : List ℤ) {s′ : Session
       }
 
   -- from that second on what is due is served, and the quiet second is to be found anew
-  pub caught-served : (r : Served) → r ≡ served-as s (serve (s .left) t (view s)) → now′ ≡ written now at (numbers-of (map Row.Shift (take (r .made) (r .shifts))))
+  pub caught-served : (r : Served) → r ≡ served-as s (served-by t (view s)) → now′ ≡ written now at (numbers-of (map Row.Shift (take (r .made) (r .shifts))))
       → s′ ≡ r .session → quiet ≡ seconds 0 → at′ ≡ at + 6 * r .made → Caught s t at now s′ quiet at′ now′
   caught-served r er en es eq ea =
       record {
@@ -79,11 +78,11 @@ module _ (s : Session) (t : Seconds) (at : ℕ) (now : List ℤ) {s′ : Session
       }
 
 -- what is served fits into the room
-module _ (s : Session) (t : Seconds) (v : Valid s) (r : Served) (e : r ≡ served-as s (serve (s .left) t (view s))) where
-  pub served-few : (r .made ≤ 16) × (r .made ≤ s .left)
+module _ (s : Session) (t : Seconds) (v : Valid s) (r : Served) (e : r ≡ served-as s (served-by t (view s))) where
+  pub served-few : (r .made ≤ 16) × (r .made ≤ most-left (view s))
   served-few =
-      let few = calls-left t (view s) (serve (s .left) t (view s)) (v .sound .exact) (serve-calls (s .left) t (view s) refl (v .sound .exact)) in
-      let made : r .made ≡ length (serve (s .left) t (view s)) = ap (λ (z : Served). z .made) e in
+      let few = calls-spend t (view s) (served-by t (view s)) (v .sound .exact) (served-calls t (view s) (v .sound .exact)) in
+      let made : r .made ≡ length (served-by t (view s)) = ap (λ (z : Served). z .made) e in
       (omega (arith, few, made, v .sane .left), omega (arith, few, made))
 
 -- ---- the second before which nothing is due, after what an event changes
@@ -114,10 +113,10 @@ quiet-changed s quiet e (Change.Quote p) v (said, named) h =
 module _ (o : Session) (b : List ℕ) (out : List ℤ) (n : ℕ) (got : List ℕ) where
   pub record Turn (s : Session) (quiet : Seconds) (at from : ℕ) (now : List ℤ) : Type 0 where
     pub ahead : Ahead o b out s at from now
-    pub named : take n got ≡ ids (view s .lines)
+    pub named : take n got ≡ session-ids (view s)
     pub none-due : Quiet quiet (view s)
 
-  pub turn-start : Valid o → room (length b) ≤ length out → take n got ≡ ids (view o .lines) → Turn o (seconds 0) 0 0 out
+  pub turn-start : Valid o → feed-needs (length b) ≤ length out → take n got ≡ session-ids (view o) → Turn o (seconds 0) 0 0 out
   turn-start v h e = record { ahead = ahead-start o b out v h; named = e; none-due = quiet-start (view o) }
 
   module _ {s : Session} {quiet : Seconds} {at from to : ℕ} {now : List ℤ} (h : Turn s quiet at from now) (g : from < length b) (c : Cut from (length b) to) where
@@ -127,7 +126,7 @@ module _ (o : Session) (b : List ℕ) (out : List ℤ) (n : ℕ) (got : List ℕ
     pub row-fits : at + 6 ≤ length now
     row-fits = omega (arith, fewer b c, h .ahead .left, ahead-long o b out (h .ahead))
 
-    pub shifts-fit : (made : ℕ) → made ≤ s .left → at + 6 * made ≤ length now
+    pub shifts-fit : (made : ℕ) → made ≤ most-left (view s) → at + 6 * made ≤ length now
     shifts-fit made few = omega (arith, h .ahead .left, ahead-long o b out (h .ahead))
 
     pub turn-refused : (why : EventReason) → verdict (view s) e ≡ EventAnswer.Refused why → {then : List ℤ}
@@ -146,11 +145,11 @@ module _ (o : Session) (b : List ℕ) (out : List ℤ) (n : ℕ) (got : List ℕ
       r = record { shifts = k .shifts; made = k .made; session = s′ }
 
       abbrev cs : List ShiftLine
-      cs = serve (s .left) (time e) (view s)
+      cs = served-by (time e) (view s)
 
       -- in the words of the event's own time
       served : r ≡ served-as s cs
-      served = k .served ∙ ap (λ (t : Seconds). served-as s (serve (s .left) t (view s))) (o′ .timed)
+      served = k .served ∙ ap (λ (t : Seconds). served-as s (served-by t (view s))) (o′ .timed)
 
       caught-view : view s′ ≡ after cs (view s)
       caught-view = ap (λ (z : Served). view (z .session)) served ∙ view-put s (after cs (view s))
@@ -180,7 +179,7 @@ module _ (o : Session) (b : List ℕ) (out : List ℤ) (n : ℕ) (got : List ℕ
       turn-taken ch ec z ez later el =
           record {
             ahead = ahead-turn o b out (h .ahead) g c (handed r z (v .time)) told at′ (k .on) now′ (k .told);
-            named = h .named ∙ sym (ap (λ (x : State). ids (x .lines)) then-view ∙ ids-applied e (after cs (view s)) ∙ ids-after cs (view s));
+            named = h .named ∙ sym (ap session-ids then-view ∙ ids-applied e (after cs (view s)) ∙ ids-after cs (view s));
             none-due = rw (then-view, el) later-quiet;
           }
         where

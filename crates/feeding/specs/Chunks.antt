@@ -6,7 +6,7 @@ use lib.IntN.{ℤ}
 use lib.ListN.{length, take, drop}
 use Rattle.corridor.specs.declared.Session.{Session}
 use Rattle.corridor.specs.View.{Valid}
-use Rattle.feeding.specs.Feeding.{room, told, left-by, fed, fed-into}
+use Rattle.feeding.specs.Feeding.{feed-needs, told, left-by, fed, fed-into}
 
 -- all bytes, one chunk after another
 abbrev pub all-bytes : List (List ℕ) → List ℕ
@@ -41,9 +41,9 @@ OneBuffer = (s : Session) (cs : List (List ℕ)) → Valid s → WholeButLast cs
 -- ---- two buffers that are fed one after the other, where each has its room
 -- xs and then ys, against both at once: the session, and the numbers in the lent buffer, those of ys behind those of xs
 pub record FedOn (s : Session) (xs ys : List ℕ) (out : List ℤ) : Type 0 where
-  pub session : (m n p : ℕ) → room (length xs) ≤ m → room (length ys) ≤ n → room (length (xs ++ ys)) ≤ p
+  pub session : (m n p : ℕ) → feed-needs (length xs) ≤ m → feed-needs (length ys) ≤ n → feed-needs (length (xs ++ ys)) ≤ p
       → fed (fed s m xs .session) n ys .session ≡ fed s p (xs ++ ys) .session
-  pub numbers : room (length xs) ≤ length out → room (length ys) ≤ length out - length (told s xs) → room (length (xs ++ ys)) ≤ length out
+  pub numbers : feed-needs (length xs) ≤ length out → feed-needs (length ys) ≤ length out - length (told s xs) → feed-needs (length (xs ++ ys)) ≤ length out
       → take (length (told s xs)) (fed-into s out xs) ++ fed-into (fed s (length out) xs .session) (drop (length (told s xs)) (fed-into s out xs)) ys
       ≡ fed-into s out (xs ++ ys)
 

@@ -10,7 +10,7 @@ use Rattle.method.specs.words.Types.{State}
 use Rattle.method.specs.told.Rows.{rows-of-all, numbers-of}
 use Rattle.method.specs.told.Program.{events-of}
 use Rattle.method.specs.computed.Search.{run, finally}
-use Rattle.rows.specs.Buffer.{written, room as rows-room}
+use Rattle.rows.specs.Buffer.{written, needed}
 use Rattle.corridor.specs.declared.Session.{Session}
 use Rattle.rows.specs.declared.RowsAnswer.{RowsAnswer}
 use Rattle.feeding.specs.declared.Fed.{Fed}
@@ -18,8 +18,8 @@ use Rattle.corridor.specs.View.{view, put, Valid}
 use Rattle.corridor.specs.Engine.{one-by-one, left-after}
 
 -- the room for the answers to so many bytes: a session makes 16 shifts at most
-abbrev pub room : ℕ → ℕ
-room size = rows-room size 16
+abbrev pub feed-needs : ℕ → ℕ
+feed-needs size = needed size 16
 
 -- all answers in numbers
 abbrev pub answers-told : State → List (List ℕ) → List ℤ
@@ -35,16 +35,16 @@ left-by s b = put s (finally (view s) (events-of b))
 -- what is handed back for the bytes b and a buffer of so many numbers
 unfoldable pub fed : Session → ℕ → List ℕ → Fed
 fed s size b =
-    cond (ltb size (room (length b))) (record { answer = RowsAnswer.NoRoom (room (length b)); session = s })
+    cond (ltb size (feed-needs (length b))) (record { answer = RowsAnswer.NoRoom (feed-needs (length b)); session = s })
     (record { answer = RowsAnswer.Written (length (told s b)); session = left-by s b })
 
 -- what the buffer holds then
 unfoldable pub fed-into : Session → List ℤ → List ℕ → List ℤ
-fed-into s out b = cond (ltb (length out) (room (length b))) out (written out 0 (told s b))
+fed-into s out b = cond (ltb (length out) (feed-needs (length b))) out (written out 0 (told s b))
 
 -- Whatever a valid session tells for the bytes b, the room for them is enough. [told-fits, in proofs/Chunks]
 abbrev pub ToldFits : Type 0
-ToldFits = (s : Session) (b : List ℕ) → Valid s → length (told s b) ≤ room (length b)
+ToldFits = (s : Session) (b : List ℕ) → Valid s → length (told s b) ≤ feed-needs (length b)
 
 -- From a valid session `feed` hands back a valid one, whatever buffer is lent, and where its room is too little too. [valid-feed, in
 -- proofs/Chunks]

@@ -56,7 +56,7 @@ pub fn feed(mut s: Session, events: &[u8], out: &mut [i64]) -> Fed
     ensures { λ _. ⌜ now (out .exit) ≡ fed-into s (now (out .entry)) (now (events .entry)) ⌝ }
 {
     let size = events.len();
-    let needed = rows::room(size, 16);
+    let needed = rows::needed(size, 16);
     if out.len() < needed {
         return Fed {
             answer: RowsAnswer::NoRoom(needed),
@@ -101,7 +101,7 @@ pub fn feed(mut s: Session, events: &[u8], out: &mut [i64]) -> Fed
                         let near = s.near;
                         let q = p.quote;
                         let place = p.place;
-                        let m = shifts::shift::quoted_line(near, s.left, q, s.lines[place]);
+                        let m = shifts::quoted_line(near, s.left, q, s.lines[place]);
                         s.lines[place] = m;
                         let wait = s.hold;
                         let h = m.holds;

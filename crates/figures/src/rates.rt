@@ -7,15 +7,10 @@ use method::Key;
 use numbers::Billionths;
 use numbers::Millionths;
 
-const NO_KEY: Key = Key {
-    days: 0,
-    rate: Millionths(0),
-};
-
 fn rate(words: &[u8], days: u32)
     requires { ⌜ days ≤ most-days ⌝ }
 {
-    let mut keys = [NO_KEY; 16];
+    let mut keys = [method::NO_KEY; 16];
     keys[0] = Key {
         days: 30,
         rate: Millionths(100000),

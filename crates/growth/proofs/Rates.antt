@@ -7,10 +7,11 @@ use lib.IntN.{pos}
 use lib.ListN.{length, getD, take}
 use lib.Seq.{getD-take, length-take-le}
 use Rattle.method.specs.words.Growth.{between-keys, rate-by-keys, rate-at}
+use Rattle.method.specs.computed.Types.{no-key}
 use Rattle.growth.specs.Names.{Key}
 use Rattle.growth.specs.Asks.{Neighbours, Searched}
 use Rattle.growth.specs.Found.{found-line}
-use Rattle.growth.proofs.Search.{no-key, found-most, Between, first-rate, last-rate, between-rate, key-at}
+use Rattle.growth.proofs.Search.{found-most, Between, first-rate, last-rate, between-rate, key-at}
 
 -- a rate that is a number of millionths is the definition's
 rate-of : (keys : List Key) (days rate : ℕ) → rate-by-keys keys days ≡ pos rate → rate ≡ rate-at keys days

@@ -12,12 +12,9 @@ use lib.ListN.{length, getD, drop}
 use lib.Seq.{drop-cons, drop-length}
 use Rattle.method.specs.words.Ranges.{largest-rate, most-days, KeysIn}
 use Rattle.method.specs.words.Growth.{between-keys, rate-from, rate-by-keys}
+use Rattle.method.specs.computed.Types.{no-key}
 use Rattle.growth.specs.Names.{Key}
 use Rattle.growth.specs.Found.{found-line}
-
--- what is read past the last key
-abbrev pub no-key : Key
-no-key = record { days = 0; rate = record { 0 = 0 } }
 
 -- an empty list has no place
 no-place : {n : ℕ} → n < 0 → ⊥

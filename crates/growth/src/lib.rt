@@ -1,11 +1,11 @@
 // Rate at the days left, exponent, and growth factors.
 
 ghost use mathlib.Core.Path.{_≡_};
-ghost use Prim.Native.Nat.{ℕ, _+_, _≤_, _<_};
+ghost use Prim.Native.Nat.{_+_, _≤_, _<_};
 ghost use lib.IntN.{pos};
 ghost use lib.ListN.{take};
 ghost use Rattle.method.specs.words.Ranges.{most-keys, largest-rate, most-days};
-ghost use Rattle.method.specs.words.Growth.{between-keys, rate-at, most-exponent, exponent, up-factor, down-factor, factors-of};
+ghost use Rattle.method.specs.words.Growth.{between-keys, rate-at, most-exponent, exponent, up-factor, factors-of};
 ghost use Rattle.growth.specs.Asks.{Neighbours, Searched};
 ghost use Rattle.growth.specs.Found.{found-line};
 use method::Factors;

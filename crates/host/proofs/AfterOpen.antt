@@ -11,7 +11,7 @@ use Rattle.corridor.specs.View.{Valid}
 use Rattle.corridor.specs.Handed.{opened-by}
 use Rattle.corridor.proofs.Theorems.{valid-open, refused-opens-none}
 use Rattle.host_memory.specs.Memory.{session-in}
-use Rattle.host.specs.Told.{TellsAfterOpen}
+use Rattle.host.specs.Checked.{TellsAfterOpen}
 
 at-least-one : (why : TableReason) → 1 ≤ table-number why
 unfolding table-number

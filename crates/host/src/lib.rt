@@ -16,10 +16,10 @@ ghost use Rattle.corridor.specs.View.{view, Valid, opened-session};
 ghost use Rattle.feeding.specs.Feeding.{fed, fed-into};
 ghost use Rattle.closing.specs.Closing.{closed, closed-into};
 ghost use Rattle.host_memory.specs.Memory.{session-in};
-ghost use Rattle.host_questions.specs.Told.{told-into, place-number, report-into};
-ghost use Rattle.counting.specs.Answered.{number-in};
-ghost use Rattle.host_session.specs.Told.{line-said, reply-in, shift-rows, Leaves};
-ghost use Rattle.host.specs.Told.{damaged, damaged-count, Tells};
+ghost use Rattle.host_questions.specs.Asked.{told-into, place-number, report-into};
+ghost use Rattle.counting.specs.Counted.{number-in};
+ghost use Rattle.host_session.specs.Answers.{line-said, reply-in, shift-rows, Leaves};
+ghost use Rattle.host.specs.Checked.{damaged, damaged-count, Tells};
 
 // How many numbers a session takes in memory, for a host that holds its own constant to it.
 #[no_mangle]

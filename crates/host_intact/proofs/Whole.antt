@@ -6,7 +6,9 @@ use native.Mathlib.Omega.{arith}
 use lib.ListN.{length, take, length-map}
 use lib.Seq.{length-take-le}
 use Rattle.numbers.specs.declared.Millionths.{Millionths}
-use Rattle.method.specs.computed.Opening.{ids}
+use Rattle.method.specs.words.Types.{session-ids}
+use Rattle.method.specs.computed.Shift.{most-left}
+use Rattle.method.specs.computed.Search.{next-due}
 use Rattle.method.specs.computed.Rooms.{Room}
 use Rattle.method.specs.computed.Sound.{Exact, Distinct}
 use Rattle.method.specs.declared.Line.{Line}
@@ -16,24 +18,24 @@ use Rattle.corridor.specs.declared.Session.{Session}
 use Rattle.corridor.specs.View.{view, Valid}
 use Rattle.host_row.specs.Packed.{line-in}
 use Rattle.host_memory.specs.Memory.{session-in}
-use Rattle.host_intact.specs.Tests.{BesideIn, LinesIn, due-by}
+use Rattle.host_intact.specs.Tests.{BesideIn, LinesIn}
 
 pub full-in : (rows : List (List ℕ)) → length rows ≡ 33 → length (session-in rows .lines) ≡ 32
 unfolding session-in
 full-in rows h = length-map (take 32 rows) line-in ∙ length-take-le 32 rows (omega arith)
 
 -- what is decided of a line
-abbrev pub Fit : Millionths → ℕ → Line → Type 0
-Fit near left l = Room left l × Exact near left l
+abbrev pub Fit : Millionths → ℕ → ℕ → Line → Type 0
+Fit near left most l = Room most l × Exact near left l
 
-pub carried : {near near′ : Millionths} {left left′ : ℕ} {l l′ : Line} → near ≡ near′ → left ≡ left′ → l ≡ l′ → Fit near left l → Fit near′ left′ l′
-carried {near} {near′} {left} {left′} {l} {l′} e f g p =
-    subst (λ (x : ℕ). Fit near′ x l′) f (subst (λ (x : Millionths). Fit x left l′) e (subst (Fit near left) g p))
+pub carried : {near near′ : Millionths} {left left′ most most′ : ℕ} {l l′ : Line} → near ≡ near′ → left ≡ left′ → most ≡ most′ → l ≡ l′ → Fit near left most l
+    → Fit near′ left′ most′ l′
+carried e f m g p = subst (λ (z : Type 0). z) (λ i. Fit (e i) (f i) (m i) (g i)) p
 
 module _ {s : Session} where
-  pub valid-so : length (s .lines) ≡ 32 → BesideIn s → LinesIn s → Distinct (ids (view s .lines)) × (due-by (view s) ≡ Nothing) → Valid s
+  pub valid-so : length (s .lines) ≡ 32 → BesideIn s → LinesIn s → Distinct (session-ids (view s)) × (next-due (s .clock) (view s) ≡ Nothing) → Valid s
   valid-so full b lines (distinct, none) =
-      let all = rows-all (s .near) (s .left) (s .lines) (s .count) (omega (arith, b .few)) lines in
+      let all = rows-all (s .near) (s .left) (most-left (view s)) (s .lines) (s .count) (omega (arith, b .few)) lines in
       record {
         full = full;
         few = b .few;
@@ -48,7 +50,7 @@ module _ {s : Session} where
       record { few = v .few; hold = r .hold; end = r .end; clock = r .clock; left = r .left; near = r .near }
 
   pub valid-lines : Valid s → LinesIn s
-  valid-lines v = all-rows (s .near) (s .left) (s .lines) (s .count) (omega (arith, v .few, v .full)) (v .sane .rooms) (v .sound .exact)
+  valid-lines v = all-rows (s .near) (s .left) (most-left (view s)) (s .lines) (s .count) (omega (arith, v .few, v .full)) (v .sane .rooms) (v .sound .exact)
 
-  pub valid-together : Valid s → Distinct (ids (view s .lines)) × (due-by (view s) ≡ Nothing)
-  valid-together v = (v .distinct, done-none-due (s .clock) (view s) (v .sound .served))
+  pub valid-together : Valid s → Distinct (session-ids (view s)) × (next-due (s .clock) (view s) ≡ Nothing)
+  valid-together v = (v .distinct, done-none-due (s .clock) (view s) (v .sound .exact) (v .sound .served))

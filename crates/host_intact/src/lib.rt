@@ -3,12 +3,13 @@
 
 ghost use mathlib.Core.Path.{_≡_};
 ghost use Rattle.numbers.specs.Decides.{Decides};
+ghost use Rattle.method.specs.words.Types.{session-ids};
 ghost use Rattle.method.specs.declared.Found.the-variants.{Nothing};
-ghost use Rattle.method.specs.computed.Opening.{ids};
+ghost use Rattle.method.specs.computed.Search.{next-due};
 ghost use Rattle.method.specs.computed.Sound.{Distinct};
 ghost use Rattle.corridor.specs.View.{view, Valid};
 ghost use Rattle.host_memory.specs.Memory.{session-in};
-ghost use Rattle.host_intact.specs.Tests.{BesideIn, LinesIn, due-by};
+ghost use Rattle.host_intact.specs.Tests.{BesideIn, LinesIn};
 use host_row::reading;
 use method::Found;
 use method::Holds;
@@ -42,7 +43,7 @@ fn lines(session: &[[u64; 21]; 33]) -> bool
     while i < n {
         let row = session[i];
         let l = reading::line(row);
-        if !host_line::line(near, left, l) {
+        if !host_line::line(near, left, left, l) {
             return false;
         }
         i = i + 1;
@@ -53,8 +54,8 @@ fn lines(session: &[[u64; 21]; 33]) -> bool
 // No id twice, and no hold that is due by the clock.
 fn together(session: &[[u64; 21]; 33]) -> bool
     requires { ⌜ BesideIn (session-in (now session)) × LinesIn (session-in (now session)) ⌝ }
-    ensures { λ r. ⌜ Decides r (Distinct (ids (view (session-in (now (session .entry))) .lines))
-        × (due-by (view (session-in (now (session .entry)))) ≡ Nothing)) ⌝ }
+    ensures { λ r. ⌜ Decides r (Distinct (session-ids (view (session-in (now (session .entry)))))
+        × (next-due (session-in (now (session .entry)) .clock) (view (session-in (now (session .entry)))) ≡ Nothing)) ⌝ }
 {
     host_memory::rows(session);
     let head = session[32];

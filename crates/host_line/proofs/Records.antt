@@ -16,14 +16,13 @@ use Rattle.numbers.proofs.Halves.{zarith, sub-is, neg-is}
 use Rattle.numbers.proofs.Ranges.{fits, within-more, within-pos, within-lit, within-sub}
 use Rattle.numbers.proofs.Tests.{never-both, in-span-true, within-in}
 use Rattle.numbers.proofs.Deciding.{decided}
-use Rattle.method.specs.words.Ranges.{longest-session, largest-near-share, largest-quote, permits-negative}
+use Rattle.method.specs.words.Ranges.{longest-session, largest-quote, permits-negative}
 use Rattle.method.specs.words.Bounds.{bound}
 use Rattle.method.specs.words.Pressure.{presses}
-use Rattle.method.specs.computed.Rooms.{largest-reach, reach, TermsIn, Floor, MarketRoom, LimitsRoom, PriceIn, HoldIn, Room}
+use Rattle.method.specs.computed.Rooms.{largest-reach, reach, TermsIn, Floor, MarketRoom, LimitsRoom, PriceIn, HoldIn}
 use Rattle.method.specs.computed.Sound.{standing, Exact}
-use Rattle.method.proofs.Rooms.{span-within, upper-in, lower-in}
+use Rattle.method.proofs.Rooms.{span-within}
 use Rattle.bounds.specs.Asks.{Drawn}
-use Rattle.pressure.specs.Asks.{Pressed}
 use Rattle.host_line.specs.Names.{Steps, Millionths, Seconds, Up, Down, Terms, Market, Limits, Price, Absent, Given, Hold, Idle, Since, Line}
 
 -- ---- how far the market reaches
@@ -104,9 +103,6 @@ hold-since {start = start} e =
     subst (λ (x : Hold). Decides (leb (start .0) longest-session) (HoldIn x)) (sym e) (decided (leb-true (start .0) longest-session) (le-leb (start .0) longest-session) refl)
 
 -- ---- holds and pressure
-pub pressed : {near : Millionths} {left : ℕ} {l : Line} → near .0 ≤ largest-near-share → Room left l → Pressed near l
-pressed h r = record { share = h; limits = record { upper = upper-in r; lower = lower-in r }; book = r .book }
-
 pub exact-both : (near : Millionths) (left : ℕ) (l : Line) → standing (l .holds .up) ≡ (ltb 0 left && presses Up near l)
     → standing (l .holds .down) ≡ (ltb 0 left && presses Down near l) → Exact near left l
 unfolding Exact

@@ -12,13 +12,13 @@ use numbers::Millionths;
 mod exact;
 mod room;
 
-// Its ranges, and holds exactly where it presses. Pressure is worked out only once the ranges are known. How many shifts are left and the
-// near share are those of its session, which are in range.
-pub fn line(near: Millionths, left: u32, l: Line) -> bool
-    requires { ⌜ (left ≤ most-shifts) × (near .0 ≤ largest-near-share) ⌝ }
-    ensures { λ r. ⌜ Decides r (Room left l × Exact near left l) ⌝ }
+// Its ranges, and holds exactly where it presses. Pressure is worked out only once the ranges are known. The near share, the shifts left and
+// the most that may still be made, by which the ranges go, are those of its session, which are in range.
+pub fn line(near: Millionths, left: u32, most: u32, l: Line) -> bool
+    requires { ⌜ (most ≤ most-shifts) × (near .0 ≤ largest-near-share) ⌝ }
+    ensures { λ r. ⌜ Decides r (Room most l × Exact near left l) ⌝ }
 {
-    if !room::room(left, l) {
+    if !room::room(most, l) {
         return false;
     }
     exact::exact(near, left, l)

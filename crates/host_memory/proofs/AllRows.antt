@@ -6,10 +6,9 @@ use native.Mathlib.Numerals.{add-one}
 use native.Mathlib.Omega.{arith}
 use lib.ListN.{length, getD, set, take}
 use lib.Seq.{take-suc, take-suc-set, take-set-le, take-all, getD-set-same}
-use Rattle.method.specs.words.Types.{seconds, millionths}
 use Rattle.host_row.specs.Packed.{at, word-in, line-in}
 use Rattle.host_memory.specs.Names.{Line, Session}
-use Rattle.host_memory.specs.Memory.{no-row, head-of, session-in}
+use Rattle.host_memory.specs.Memory.{no-row, head-of, session-of, headed, session-in}
 
 -- ---- a list of images, one after another
 module _ {A B : Type 0} (f : A → B) (xs : List A) (ys : List B) (i : ℕ) (h : i < length xs) (g : i < length ys) where
@@ -28,10 +27,6 @@ module _ {A B : Type 0} (f : A → B) (xs : List A) (ys : List B) (i : ℕ) (h :
       ∙ ap (λ (y : B). take i ys ++ (y ∷ [])) e ∙ sym (take-suc ys i d g))
 
 -- ---- a session is put together
-abbrev pub session-of : List Line → ℕ → ℕ → ℕ → ℕ → ℕ → ℕ → Session
-session-of ls count clock end hold left near =
-    record { lines = ls; count = count; clock = seconds clock; end = seconds end; hold = seconds hold; left = left; near = millionths near }
-
 -- the lines of all 32 rows
 pub all-lines : (rows : List (List ℕ)) (ls : List Line) (i : ℕ) → i ≡ 32 → length ls ≡ 32 → take i ls ≡ map line-in (take i rows) → ls ≡ map line-in (take 32 rows)
 all-lines rows ls i e n p = sym (take-all 32 ls (omega arith)) ∙ ap (λ (k : ℕ). take k ls) (sym e) ∙ p ∙ ap (λ (k : ℕ). map line-in (take k rows)) e
@@ -49,8 +44,7 @@ pub stored : (rows : List (List ℕ)) (s : Session) (row : List ℕ) (i : ℕ) �
     → map line-in (take i rows) ≡ take i (s .lines) → Head row s → session-in (set rows 32 row) ≡ s
 unfolding session-in
 stored rows s row i m n e p h =
-    ap (λ (ls : List Line). session-of ls (at top 0) (word-in (at top 1)) (word-in (at top 2)) (word-in (at top 3)) (word-in (at top 4)) (word-in (at top 5))) lines-are
-    ∙ ap (λ (r : List ℕ). session-of (s .lines) (at r 0) (word-in (at r 1)) (word-in (at r 2)) (word-in (at r 3)) (word-in (at r 4)) (word-in (at r 5))) last-is
+    ap (λ (ls : List Line). headed ls top) lines-are ∙ ap (headed (s .lines)) last-is
     ∙ (λ j. session-of (s .lines) (h .count j) (h .clock j) (h .end j) (h .hold j) (h .left j) (h .near j))
   where
     top : List ℕ

@@ -6,10 +6,10 @@ use native.Mathlib.Omega.{arith}
 use lib.ListN.{length, getD, set, take, List·getD-map}
 use lib.Seq.{getD-take, take-set-le, take-set-lt, getD-set-same, getD-set-other}
 use Rattle.method.specs.words.Types.{blank, seconds, millionths}
+use Rattle.corridor.specs.View.{moved-on, with-line}
 use Rattle.host_row.specs.Packed.{at, word-in, hold-in, line-in}
-use Rattle.host_memory.specs.Names.{Seconds, Line, Session}
-use Rattle.host_memory.specs.Memory.{no-row, head-of, session-in, with-line, with-clock}
-use Rattle.host_memory.proofs.AllRows.{session-of}
+use Rattle.host_memory.specs.Names.{Seconds, Line}
+use Rattle.host_memory.specs.Memory.{no-row, head-of, session-of, headed, session-in}
 
 -- ---- beside the lines
 pub count-is : (rows : List (List ℕ)) → at (head-of rows) 0 ≡ session-in rows .count
@@ -73,15 +73,12 @@ map-set f [] i x = refl
 map-set f (y ∷ xs) zero x = refl
 map-set f (y ∷ xs) (suc i) x = ap (λ (zs : List _). f y ∷ zs) (map-set f xs i x)
 
-abbrev under : List Line → List ℕ → Session
-under ls top = session-of ls (at top 0) (word-in (at top 1)) (word-in (at top 2)) (word-in (at top 3)) (word-in (at top 4)) (word-in (at top 5))
-
 pub line-stored : (rows : List (List ℕ)) (p : ℕ) (row : List ℕ) (m : Line) → p < 32 → line-in row ≡ m → session-in (set rows p row) ≡ with-line (session-in rows) p m
 unfolding session-in
 line-stored rows p row m h e =
-    ap (λ (ls : List Line). under ls (head-of (set rows p row))) (ap (map line-in) (take-set-lt 32 rows p row h) ∙ map-set line-in (take 32 rows) p row)
-    ∙ ap (λ (l : Line). under (set (map line-in (take 32 rows)) p l) (head-of (set rows p row))) e
-    ∙ ap (under (set (map line-in (take 32 rows)) p m)) (getD-set-other rows p 32 row no-row other)
+    ap (λ (ls : List Line). headed ls (head-of (set rows p row))) (ap (map line-in) (take-set-lt 32 rows p row h) ∙ map-set line-in (take 32 rows) p row)
+    ∙ ap (λ (l : Line). headed (set (map line-in (take 32 rows)) p l) (head-of (set rows p row))) e
+    ∙ ap (headed (set (map line-in (take 32 rows)) p m)) (getD-set-other rows p 32 row no-row other)
   where
     other : 32 ≡ p → ⊥
     other q = omega arith
@@ -89,9 +86,9 @@ line-stored rows p row m h e =
 -- ---- the clock is set
 pub clock-stored : (rows : List (List ℕ)) (row : List ℕ) (t : Seconds) → length rows ≡ 33 → at row 0 ≡ at (head-of rows) 0 → word-in (at row 1) ≡ t .0
     → at row 2 ≡ at (head-of rows) 2 → at row 3 ≡ at (head-of rows) 3 → at row 4 ≡ at (head-of rows) 4 → at row 5 ≡ at (head-of rows) 5
-    → session-in (set rows 32 row) ≡ with-clock (session-in rows) t
+    → session-in (set rows 32 row) ≡ moved-on (session-in rows) (session-in rows .lines) t
 unfolding session-in
 clock-stored rows row t long e₀ e₁ e₂ e₃ e₄ e₅ =
-    ap (λ (ls : List Line). under ls (head-of (set rows 32 row))) (ap (map line-in) (take-set-le 32 rows 32 row (omega arith)))
-    ∙ ap (under (map line-in (take 32 rows))) (getD-set-same rows 32 row no-row (omega arith))
+    ap (λ (ls : List Line). headed ls (head-of (set rows 32 row))) (ap (map line-in) (take-set-le 32 rows 32 row (omega arith)))
+    ∙ ap (headed (map line-in (take 32 rows))) (getD-set-same rows 32 row no-row (omega arith))
     ∙ (λ j. session-of (map line-in (take 32 rows)) (e₀ j) (e₁ j) (word-in (e₂ j)) (word-in (e₃ j)) (word-in (e₄ j)) (word-in (e₅ j)))

@@ -4,8 +4,9 @@
 ghost use mathlib.Core.Path.{_≡_};
 ghost use Prim.Native.Nat.{_<_};
 ghost use lib.ListN.{length};
+ghost use Rattle.corridor.specs.View.{moved-on, with-line};
 ghost use Rattle.host_row.specs.Packed.{at, word-in};
-ghost use Rattle.host_memory.specs.Memory.{session-in, with-line, with-clock};
+ghost use Rattle.host_memory.specs.Memory.{session-in};
 use corridor::Session;
 use host_row::reading;
 use host_row::writing;
@@ -106,7 +107,7 @@ fn with_time(head: [u64; 21], t: u32) -> [u64; 21]
 
 // Another clock.
 pub fn with_clock(memory: &mut [[u64; 21]; 33], t: Seconds)
-    ensures { λ _. ⌜ session-in (now (memory .exit)) ≡ with-clock (session-in (now (memory .entry))) t ⌝ }
+    ensures { λ _. ⌜ session-in (now (memory .exit)) ≡ moved-on (session-in (now (memory .entry))) (session-in (now (memory .entry)) .lines) t ⌝ }
 {
     rows(memory);
     let head = memory[32];

@@ -3,7 +3,7 @@ use mathlib.Core.Path.{_≡_, refl}
 use Rattle.method.specs.declared.ReportAnswer.the-variants.{Standing}
 use Rattle.method.specs.told.Refusals.{report-said}
 use Rattle.host_report.specs.Names.{Price, Absent, Given, HoldReport, NoHold, Holding, Report}
-use Rattle.host_report.specs.Told.{hold-told, price-told, limit-row, market-row, hold-row, book-row, report-rows, said-in, ReportAsSaid}
+use Rattle.host_report.specs.ReportRows.{hold-told, price-told, limit-row, market-row, hold-row, book-row, report-rows, said-in, ReportAsSaid}
 
 -- the report with other holds and another book
 abbrev standing : Report → HoldReport → HoldReport → Price → Price → Report

@@ -3,7 +3,7 @@
 ghost use mathlib.Core.Path.{_≡_};
 ghost use lib.IntN.{pos};
 ghost use Rattle.method.specs.told.Refusals.{mark};
-ghost use Rattle.host_report.specs.Told.{hold-told, price-told, limit-row, market-row, hold-row, book-row, report-rows};
+ghost use Rattle.host_report.specs.ReportRows.{hold-told, price-told, limit-row, market-row, hold-row, book-row, report-rows};
 use method::BothBounds;
 use method::HoldReport;
 use method::Limits;

@@ -38,7 +38,7 @@ line-in r =
           record {
             id = word-in (at r 0);
             flags = word-in (at r 1);
-            below = mark-in (at r 2);
+            negative = mark-in (at r 2);
             halfmove = steps (signed-in (at r 3));
             factors = record { up = billionths (at r 4); down = billionths (at r 5) };
           };

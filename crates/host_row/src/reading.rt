@@ -78,7 +78,7 @@ pub fn line(row: [u64; 21]) -> Line
         terms: Terms {
             id: word(row[0]),
             flags: word(row[1]),
-            below: mark(row[2]),
+            negative: mark(row[2]),
             halfmove: halfmove,
             factors: Factors {
                 up: Billionths(row[4]),

@@ -92,7 +92,7 @@ pub fn row(l: Line) -> [u64; 21]
     [
         word_number(terms.id),
         word_number(terms.flags),
-        mark_number(terms.below),
+        mark_number(terms.negative),
         signed_number(halfmove),
         terms.factors.up.0,
         terms.factors.down.0,

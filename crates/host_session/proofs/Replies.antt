@@ -10,7 +10,7 @@ use Rattle.method.specs.told.Refusals.{table-said, event-said}
 use Rattle.method.specs.told.Rows.{row-numbers}
 use Rattle.method.specs.computed.Event.{read}
 use Rattle.method.specs.computed.Search.{answer, run}
-use Rattle.method.proofs.Answers.{run-right, answers-count}
+use Rattle.method.proofs.Answers.{run-right, answers-spend}
 use Rattle.method.specs.declared.Row.the-variants as Row
 use Rattle.method.specs.declared.TableReason.{TableReason}
 use Rattle.method.specs.declared.Event.{Event}
@@ -18,7 +18,7 @@ use Rattle.corridor.specs.View.{view, Valid}
 use Rattle.corridor.specs.Reply.{reply-of}
 use Rattle.corridor.specs.Engine.{reply-to}
 use Rattle.host_session.specs.Names.{TableAnswer, EventAnswer, EventReason, Session}
-use Rattle.host_session.specs.Told.{line-said}
+use Rattle.host_session.specs.Answers.{line-said}
 
 few-lines : (s : Session) (e : Event) (a : Answer) → length (joined (a ∷ [])) ≤ 16 → reply-of s e a .made ≤ 16
 unfolding joined reply-of
@@ -29,7 +29,7 @@ pub made-few : (s : Session) (b : List ℕ) → Valid s → reply-to s b .made �
 unfolding run
 made-few s b v =
     let a : Answer = answer (view s) (read b) in
-    few-lines s (read b) a (omega (arith, answers-count (view s) (b ∷ []) (a ∷ []) (v .sound) (run-right (view s) (b ∷ []) (v .sound)), v .sane .left))
+    few-lines s (read b) a (omega (arith, answers-spend (view s) (b ∷ []) (a ∷ []) (v .sound) (run-right (view s) (b ∷ []) (v .sound)), v .sane .left))
 
 abbrev IsRefused : EventAnswer → Type 0
 IsRefused EventAnswer.Accepted = ⊥

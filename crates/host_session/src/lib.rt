@@ -4,21 +4,20 @@ ghost use mathlib.Core.Path.{_≡_};
 ghost use lib.IntN.{pos};
 ghost use Prim.Native.Nat.{_<_};
 ghost use lib.ListN.{length, getD};
-ghost use Rattle.method.specs.words.Types.{blank};
+ghost use Rattle.method.specs.words.Types.{blank, session-ids};
 ghost use Rattle.method.specs.told.Refusals.{table-said, event-said};
-ghost use Rattle.method.specs.computed.Opening.{ids};
 ghost use Rattle.method.specs.computed.Table.{opening};
 ghost use Rattle.method.specs.computed.Event.{with-book, quoted-line};
 ghost use Rattle.pressure.specs.Asks.{Pressed};
 ghost use Rattle.verdict.specs.Screened.{screened};
 ghost use Rattle.rows.specs.Buffer.{written};
-ghost use Rattle.corridor.specs.View.{view, Valid, opened-session};
+ghost use Rattle.corridor.specs.View.{view, with-line, Valid, opened-session};
 ghost use Rattle.feeding.specs.Quiet.{quiet-until};
 ghost use Rattle.feeding.specs.Feeding.{fed, fed-into};
 ghost use Rattle.closing.specs.Closing.{closed, closed-into};
-ghost use Rattle.counting.specs.Answered.{number-in};
-ghost use Rattle.host_memory.specs.Memory.{session-in, with-line};
-ghost use Rattle.host_session.specs.Told.{line-said, reply-in, shift-rows, Leaves};
+ghost use Rattle.counting.specs.Counted.{number-in};
+ghost use Rattle.host_memory.specs.Memory.{session-in};
+ghost use Rattle.host_session.specs.Answers.{line-said, reply-in, shift-rows, Leaves};
 use host_row::reading;
 use method::Event;
 use method::EventAnswer;
@@ -94,7 +93,7 @@ pub struct Seen {
 
 fn looked(session: &[[u64; 21]; 33], e: Event) -> Seen
     requires { ⌜ Valid (session-in (now session)) ⌝ }
-    ensures { λ r. ⌜ r .verdict ≡ screened (ids (view (session-in (now (session .entry))) .lines))
+    ensures { λ r. ⌜ r .verdict ≡ screened (session-ids (view (session-in (now (session .entry)))))
         (session-in (now (session .entry)) .end) (session-in (now (session .entry)) .clock) e ⌝ }
     ensures { λ r. ⌜ r .quiet ≡ quiet-until (view (session-in (now (session .entry)))) ⌝ }
 {
@@ -130,7 +129,7 @@ fn quoted(session: &mut [[u64; 21]; 33], place: usize, q: Quote)
     let near = Millionths(reading::word(head[5]));
     let row = session[place];
     let l = reading::line(row);
-    let m = shifts::shift::quoted_line(near, reading::word(head[4]), q, l);
+    let m = shifts::quoted_line(near, reading::word(head[4]), q, l);
     host_memory::with_line(session, place, m);
 }
 

@@ -16,14 +16,14 @@ use Rattle.method.specs.laws.Ticks.{Repeats}
 use Rattle.method.specs.told.Questions.{known}
 use Rattle.method.specs.computed.Types.{Quote, Event, Damaged, Tick, Quoted}
 use Rattle.method.specs.computed.Table.{opening}
-use Rattle.method.specs.computed.Judge.{judge}
+use Rattle.method.specs.computed.Judge.{judge-line}
 use Rattle.method.specs.computed.Shift.{moved-line, shift-line, shifted}
 use Rattle.method.specs.computed.Event.{not-crossed, verdict, read, quoted-line, applied}
 use Rattle.method.specs.computed.Relation.{Answers, reached}
 use Rattle.method.specs.computed.Later.{Later, start, shift, event}
 use Rattle.method.specs.computed.Rooms.{LineIn}
 use Rattle.method.proofs.Demands.{met-by}
-use Rattle.method.proofs.Every.{every-map, every-weaker, every-with, every-quoted}
+use Rattle.method.proofs.Every.{every-map, every-weaker, every-with, every-quoted, every-to-map}
 use Rattle.method.proofs.Table.{accepted-table}
 use Rattle.method.proofs.Events.{not-accepted, in-session-met, on-time}
 use Rattle.method.proofs.Later.{moment-reached}
@@ -40,17 +40,17 @@ opened-open l r = rw (r .book)
 taken-open : (s : State) (q : Quote) → verdict s (Quoted q) ≡ EventAnswer.Accepted → not-crossed (q .bid) (q .ask) ≡ true
 unfolding verdict
 taken-open s q v =
-    let its = met-by (known (q .id) (s .lines)) not-accepted (in-session-met s (q .time) _ v .1) in
+    let its = met-by (known (q .id) s) not-accepted (in-session-met s (q .time) _ v .1) in
     met-by (not-crossed (q .bid) (q .ask)) not-accepted (its .1) .0
 
 open-applied : (e : Event) (s : State) → verdict s e ≡ EventAnswer.Accepted → Every Open (s .lines) → Every Open (applied e s .lines)
-unfolding applied quoted-line judge
+unfolding applied quoted-line judge-line
 open-applied Damaged s v ps = ps
 open-applied (Tick t) s v ps = ps
 open-applied (Quoted q) s v ps = every-quoted (s .near) (s .left) q Open (λ l p. taken-open s q v) (s .lines) ps
 
 open-moment : {o s : State} {cs : List ShiftLine} → Every Open (o .lines) → Later o cs s → Every Open (s .lines)
-unfolding shifted shift-line judge moved-line
+unfolding shifted shift-line judge-line moved-line
 open-moment h start = h
 open-moment h (shift {s = s} m t c f) =
     every-map Open Open (shift-line (s .near) (s .left - 1) (c .side) (c .second)) (λ l p. p) (s .lines) (open-moment h m)
@@ -70,7 +70,7 @@ repeat-open table o e past told h b r its x =
     let s : State = reached o past told in
     let none : Every Open (o .lines) = every-weaker LineIn Open opened-open (o .lines) (accepted-table table o e .state .lines) in
     let books : Every Open (s .lines) = open-moment none (moment-reached past told start h) in
-    its (every-with _ _ _ (λ l p q i. crossed-line b l x (p i) q) (s .lines) (r .standing) books)
+    its (every-to-map (λ i. i ≡ word b 4 → ⊥) (λ (l : Line). l .terms .id) (s .lines) (every-with _ _ _ (λ l p q i. crossed-line b l x (p i) q) (s .lines) (r .standing) books))
 
 -- ---- a time from the clock to that of an accepted event
 pub in-session-between : (s : State) (b f : List ℕ) → verdict s (read f) ≡ EventAnswer.Accepted → s .clock .0 ≤ word b 0 → word b 0 ≤ word f 0 → InSession s b

@@ -7,7 +7,7 @@ use native.Mathlib.Omega.{arith}
 use lib.Dec.{eqb}
 use lib.IntN.{ℤ}
 use borrow.Author.Tests.{eqb-true, eqb-false}
-use Rattle.method.specs.words.Types.{Millionths, Key, Contract, Line, ShiftLine, State, EventAnswer, seconds}
+use Rattle.method.specs.words.Types.{Millionths, Key, Contract, Line, ShiftLine, State, EventAnswer, seconds, ids}
 use Rattle.method.specs.words.Wire.{word, signed, bit}
 use Rattle.method.specs.words.Ranges.{Every}
 use Rattle.method.specs.words.Opening.{terms-of, fresh-line}
@@ -16,9 +16,8 @@ use Rattle.method.specs.words.Events.{IsQuote, EventAnswered, tick-taken
 use Rattle.method.specs.words.Books.{PriceSaid, Quotes, BookLife}
 use Rattle.method.specs.words.Shifts.{Each}
 use Rattle.method.specs.words.Sessions.{accepted}
-use Rattle.method.specs.computed.Opening.{ids}
 use Rattle.method.specs.computed.Table.{opening}
-use Rattle.method.specs.computed.Judge.{judge}
+use Rattle.method.specs.computed.Judge.{judge-line}
 use Rattle.method.specs.computed.Shift.{moved-line, shift-line, shifted, onward, after}
 use Rattle.method.specs.computed.Event.{price-of, read, verdict, quoted-line, quoted, applied, next}
 use Rattle.method.specs.computed.Relation.{time}
@@ -63,38 +62,38 @@ same-ids R h (o ∷ os) (l ∷ ls) rs =
     cc
 
 -- ---- a shift leaves terms and book of every line
-pub record Alike (l n : Line) : Type 0 where
+pub record SameBook (l n : Line) : Type 0 where
   pub terms : n .terms ≡ l .terms
   pub book : n .book ≡ l .book
 
-pub each-alike : (ls : List Line) → Each Alike ls ls
-each-alike ls = each-same (λ l. Unit {0}) Alike (λ l p. record { terms = refl; book = refl }) ls (every-all _ (λ l. tt) ls)
+pub each-same-book : (ls : List Line) → Each SameBook ls ls
+each-same-book ls = each-same (λ l. Unit {0}) SameBook (λ l p. record { terms = refl; book = refl }) ls (every-all _ (λ l. tt) ls)
 
 -- the lines os, alike to those of a state, are alike to those of the shifted state
-alike-once-more : (os : List Line) (s : State) (c : ShiftLine) → Each Alike os (s .lines) → Each Alike os (onward s c .lines)
-unfolding shifted shift-line judge moved-line
-alike-once-more os s c rs =
-    each-map (λ l. Unit {0}) Alike Alike (shift-line (s .near) (s .left - 1) (c .side) (c .second))
+same-book-once-more : (os : List Line) (s : State) (c : ShiftLine) → Each SameBook os (s .lines) → Each SameBook os (onward s c .lines)
+unfolding shifted shift-line judge-line moved-line
+same-book-once-more os s c rs =
+    each-map (λ l. Unit {0}) SameBook SameBook (shift-line (s .near) (s .left - 1) (c .side) (c .second))
     (λ o l p a. record { terms = a .terms; book = a .book }) os (s .lines) (every-all _ (λ l. tt) (s .lines)) rs
 
-pub alike-onward : (s : State) (c : ShiftLine) → Each Alike (s .lines) (onward s c .lines)
-alike-onward s c = alike-once-more (s .lines) s c (each-alike (s .lines))
+pub same-book-onward : (s : State) (c : ShiftLine) → Each SameBook (s .lines) (onward s c .lines)
+same-book-onward s c = same-book-once-more (s .lines) s c (each-same-book (s .lines))
 
-pub alike-after : (os : List Line) (cs : List ShiftLine) (s : State) → Each Alike os (s .lines) → Each Alike os (after cs s .lines)
+pub same-book-after : (os : List Line) (cs : List ShiftLine) (s : State) → Each SameBook os (s .lines) → Each SameBook os (after cs s .lines)
 unfolding after
-alike-after os [] s rs = rs
-alike-after os (c ∷ cs) s rs = alike-after os cs (onward s c) (alike-once-more os s c rs)
+same-book-after os [] s rs = rs
+same-book-after os (c ∷ cs) s rs = same-book-after os cs (onward s c) (same-book-once-more os s c rs)
 
 -- ---- a quote
 price-said : (present : Bool) (z : ℤ) → PriceSaid present z (price-of present z)
 price-said true z = record { given = λ e. refl; absent = λ e. absurd (true≢false e) }
 price-said false z = record { given = λ e. absurd (false≢true e); absent = λ e. refl }
 
-untouched : (b : List ℕ) (l n : Line) → (Quotes b l → ⊥) → Alike l n → BookLife b l n
+untouched : (b : List ℕ) (l n : Line) → (Quotes b l → ⊥) → SameBook l n → BookLife b l n
 untouched b l n other a = record { replaced = λ q. absurd (other q); stays = λ z. a .book }
 
 -- lines whose id is not the quote's
-others : (b : List ℕ) (os ls : List Line) → Every (λ j. j ≡ word b 4 → ⊥) (ids ls) → Each Alike os ls → Each (BookLife b) os ls
+others : (b : List ℕ) (os ls : List Line) → Every (λ j. j ≡ word b 4 → ⊥) (ids ls) → Each SameBook os ls → Each (BookLife b) os ls
 unfolding Each Every
 others b [] [] ps rs = tt
 others b [] (l ∷ ls) ps rs = rs
@@ -103,14 +102,14 @@ others b (o ∷ os) (l ∷ ls) ps rs = (untouched b o l (λ q. ps .0 (ap (λ t. 
 
 module _ (near : Millionths) (left : ℕ) (b : List ℕ) (quote : IsQuote b) where
   pub quoted-book : (o l : Line) → o .terms .id ≡ word b 4 → BookLife b o (quoted-line near left (the-quote b) l)
-  unfolding quoted-line judge
+  unfolding quoted-line judge-line
   quoted-book o l e =
       record {
         replaced = λ q. record { bid = price-said (bit 0 (word b 8)) (signed (word b 12)); ask = price-said (bit 1 (word b 8)) (signed (word b 16)) };
         stays = λ other. absurd (other (record { quote = quote; id = e }));
       }
 
-  quoted-books : (os ls : List Line) → Distinct (ids ls) → Each Alike os ls → Each (BookLife b) os (quoted near left (the-quote b) ls)
+  quoted-books : (os ls : List Line) → Distinct (ids ls) → Each SameBook os ls → Each (BookLife b) os (quoted near left (the-quote b) ls)
   unfolding Each Distinct quoted
   quoted-books [] [] ps rs = tt
   quoted-books [] (l ∷ ls) ps rs = absurd rs
@@ -137,17 +136,17 @@ module _ (s : State) (b : List ℕ) where
   unfolding next applied
   books-over cs ps v = go (taken v)
     where
-      rs : Each Alike (s .lines) (after cs s .lines)
-      rs = alike-after (s .lines) cs s (each-alike (s .lines))
+      rs : Each SameBook (s .lines) (after cs s .lines)
+      rs = same-book-after (s .lines) cs s (each-same-book (s .lines))
 
       go : EventAnswered s b EventAnswer.Accepted → Each (BookLife b) (s .lines) (applied (read b) (after cs s) .lines)
       go (tick-taken t i) =
           rw (read-tick-is s b t)
-          (each-weaker Alike (BookLife b) (λ o l a. untouched b o l (λ q. omega (arith, t .flags, q .quote .flags)) a) (s .lines) (after cs s .lines) rs)
+          (each-weaker SameBook (BookLife b) (λ o l a. untouched b o l (λ q. omega (arith, t .flags, q .quote .flags)) a) (s .lines) (after cs s .lines) rs)
       go (quote-taken q i k c) =
           rw (read-quote-is s b q)
           (quoted-books (after cs s .near) (after cs s .left) b q (s .lines) (after cs s .lines)
-          (subst Distinct (same-ids Alike (λ o l a. a .terms) (s .lines) (after cs s .lines) rs) ps) rs)
+          (subst Distinct (same-ids SameBook (λ o l a. a .terms) (s .lines) (after cs s .lines) rs) ps) rs)
 
   pub accepted-time : verdict s (read b) ≡ EventAnswer.Accepted → time (read b) ≡ seconds (word b 0)
   accepted-time v = go (taken v)

@@ -59,7 +59,7 @@ module _ (p z : ℤ) (f : ℕ) where
   interest-under h = rw (floor-exact p unit (lit< tt)) at (floor-mono unit h)
 
 -- ---- the centre lies between the interest bounds
-module _ (t : Terms) (m : Market) (r : FactorsIn t) (h : pos 0 ≤ℤ (m .half1 .0)) (sign : t .below ≡ ltZ (m .centre .0) (pos 0)) where
+module _ (t : Terms) (m : Market) (r : FactorsIn t) (h : pos 0 ≤ℤ (m .half1 .0)) (sign : t .negative ≡ ltZ (m .centre .0) (pos 0)) where
   abbrev c : ℤ
   c = m .centre .0
 
@@ -71,7 +71,7 @@ module _ (t : Terms) (m : Market) (r : FactorsIn t) (h : pos 0 ≤ℤ (m .half1 
 
   pub centre-below-upper : c ≤ℤ bound Up t m
   unfolding bound factor
-  centre-below-upper = interest-over c (c +ℤ m .half1 .0) _ (go (t .below) sign)
+  centre-below-upper = interest-over c (c +ℤ m .half1 .0) _ (go (t .negative) sign)
     where
       go : (b : Bool) → b ≡ ltZ c (pos 0) → (c *ℤ pos unit) ≤ℤ ((c +ℤ m .half1 .0) *ℤ pos (cond b (t .factors .down .0) (t .factors .up .0)))
       go true e = over-below c (c +ℤ m .half1 .0) (t .factors .down .0) (let q = lt-true c (pos 0) (sym e) in omega zarith) high (r .down .most)
@@ -79,7 +79,7 @@ module _ (t : Terms) (m : Market) (r : FactorsIn t) (h : pos 0 ≤ℤ (m .half1 
 
   pub centre-above-lower : bound Down t m ≤ℤ c
   unfolding bound factor
-  centre-above-lower = interest-under c (c -ℤ m .half1 .0) _ (go (t .below) sign)
+  centre-above-lower = interest-under c (c -ℤ m .half1 .0) _ (go (t .negative) sign)
     where
       go : (b : Bool) → b ≡ ltZ c (pos 0) → ((c -ℤ m .half1 .0) *ℤ pos (cond b (t .factors .up .0) (t .factors .down .0))) ≤ℤ (c *ℤ pos unit)
       go true e = under-below c (c -ℤ m .half1 .0) (t .factors .up .0) (let q = lt-true c (pos 0) (sym e) in omega zarith) low (r .up .least)
@@ -103,7 +103,7 @@ module _ (p half b : ℤ) (flags : ℕ) (nonneg : pos 0 ≤ℤ half) (least : pe
   floored-lower (met q h) g = record { least = omega zarith; most = least q }
 
 -- the corridor of a line whose limits were inside their bounds
-pub corridor-in : (width : Millionths) (t : Terms) (m : Market) → FactorsIn t → pos 0 ≤ℤ (m .half1 .0) → t .below ≡ ltZ (m .centre .0) (pos 0)
+pub corridor-in : (width : Millionths) (t : Terms) (m : Market) → FactorsIn t → pos 0 ≤ℤ (m .half1 .0) → t .negative ≡ ltZ (m .centre .0) (pos 0)
     → (permits-negative (t .flags) ≡ false → pos 1 ≤ℤ (m .centre .0)) → inside-bounds t m (corridor width t m) ≡ true
     → LimitsIn t m (floored (permits-negative (t .flags)) (corridor width t m))
 unfolding corridor inside-bounds

@@ -7,10 +7,10 @@ use Prim.Native.Nat.{ℕ}
 use lib.Dec.{eqb}
 use borrow.Author.Tests.{eqb-true, eqb-false, le-leb, lt-ltb, eq-eqb, ne-eqb}
 use Rattle.numbers.proofs.Tests.{both, both-true, never-both, le-true, true-le, range-in, span-in, within-in}
-use Rattle.method.specs.words.Types.{Header, Key, Contract, Terms, Market, Limits, Line}
+use Rattle.method.specs.words.Types.{Header, Key, Contract, Terms, Market, Limits}
 use Rattle.method.specs.words.Ranges.{most-shifts, whole, largest-rate, most-days, permits-negative, HeaderIn, KeyIn, ContractIn, Every}
 use Rattle.method.specs.words.Tables.{Laid, InsideBounds}
-use Rattle.method.specs.told.Questions.{known}
+use Rattle.method.specs.told.Questions.{listed}
 use Rattle.method.specs.computed.Opening.{rates-good, fields-good, inside-bounds}
 use Rattle.method.specs.computed.Table.{header-good, laid-out, key-good}
 
@@ -81,18 +81,18 @@ pub inside-test : (t : Terms) (m : Market) (k : Limits) → InsideBounds t m k �
 unfolding inside-bounds
 inside-test t m k r = both-true (true-le (r .upper)) (true-le (r .lower))
 
--- an id that is not known stands on no line
-pub known-not : (id : ℕ) (ls : List Line) → known id ls ≡ false → Every (λ l. l .terms .id ≡ id → ⊥) ls
-unfolding known Every
-known-not id [] e = tt
-known-not id (l ∷ ls) e = go (eqb (l .terms .id) id) refl e (known-not id ls)
+-- an id that is not listed is none of them
+pub not-any : (id : ℕ) (is : List ℕ) → listed id is ≡ false → Every (λ i. i ≡ id → ⊥) is
+unfolding listed Every
+not-any id [] e = tt
+not-any id (i ∷ is) e = go (eqb i id) refl e (not-any id is)
   where
-    go : (t : Bool) → eqb (l .terms .id) id ≡ t → (t || known id ls) ≡ false → (known id ls ≡ false → Every (λ l. l .terms .id ≡ id → ⊥) ls)
-        → (l .terms .id ≡ id → ⊥) × Every (λ l. l .terms .id ≡ id → ⊥) ls
+    go : (t : Bool) → eqb i id ≡ t → (t || listed id is) ≡ false → (listed id is ≡ false → Every (λ j. j ≡ id → ⊥) is)
+        → (i ≡ id → ⊥) × Every (λ j. j ≡ id → ⊥) is
     go true q e more = never-both e refl
-    go false q e more = (eqb-false (l .terms .id) id q, more e)
+    go false q e more = (eqb-false i id q, more e)
 
-pub not-known : (id : ℕ) (ls : List Line) → Every (λ l. l .terms .id ≡ id → ⊥) ls → known id ls ≡ false
-unfolding known Every
-not-known id [] r = refl
-not-known id (l ∷ ls) r = rw (ne-eqb (l .terms .id) id (r .0)) (not-known id ls (r .1))
+pub not-listed : (id : ℕ) (is : List ℕ) → Every (λ i. i ≡ id → ⊥) is → listed id is ≡ false
+unfolding listed Every
+not-listed id [] r = refl
+not-listed id (i ∷ is) r = rw (ne-eqb i id (r .0)) (not-listed id is (r .1))

@@ -1,7 +1,7 @@
 -- What a byte string read as an event tells, what an accepted event tells, and that a shift changes no verdict. Assumes nothing.
-use mathlib.Core.Path.{_≡_, refl, sym, ap, _∙_}
-use mathlib.Core.Bool.{Bool, true, false, _&&_, _||_}
-use mathlib.Core.List.{List, [], _∷_, foldr, map}
+use mathlib.Core.Path.{_≡_, refl, ap, _∙_}
+use mathlib.Core.Bool.{Bool, true, false, _&&_}
+use mathlib.Core.List.{List, [], _∷_, map}
 use Prim.Native.Nat.{ℕ, _-_}
 use native.Mathlib.Omega.{arith}
 use lib.Dec.{ltb, leb, eqb}
@@ -11,13 +11,11 @@ use borrow.Author.Tests.{leb-true}
 use Rattle.numbers.specs.Ranges.{Between}
 use Rattle.numbers.specs.Tests.{same}
 use Rattle.numbers.proofs.Tests.{both, in-span-true}
-use Rattle.method.specs.words.Types.{Side, Seconds, Millionths, Line, ShiftLine, State, EventReason, EventAnswer, seconds}
+use Rattle.method.specs.words.Types.{Side, Seconds, Millionths, Line, ShiftLine, State, EventReason, EventAnswer, seconds, ids}
 use Rattle.method.specs.words.Wire.{word, signed, bit}
 use Rattle.method.specs.words.Ranges.{largest-quote}
-use Rattle.method.specs.told.Questions.{known}
 use Rattle.method.specs.computed.Types.{Event, Damaged, Tick, Quoted}
-use Rattle.method.specs.computed.Opening.{ids}
-use Rattle.method.specs.computed.Judge.{judge}
+use Rattle.method.specs.computed.Judge.{judge-line}
 use Rattle.method.specs.computed.Shift.{moved-line, shift-line, shifted, onward, after}
 use Rattle.method.specs.computed.Event.{price-good, price-of, read-tick, read-quote, read, in-session, verdict}
 use Rattle.method.specs.computed.Relation.{time}
@@ -71,25 +69,15 @@ on-time s (Quoted q) h = in-session-met s (q .time) _ h .0
 
 -- ---- a shift leaves clock, end and ids, and so every verdict
 pub ids-shifted : (near : Millionths) (left : ℕ) (side : Side) (now : Seconds) (ls : List Line) → ids (map (shift-line near left side now) ls) ≡ ids ls
-unfolding shift-line judge moved-line
+unfolding shift-line judge-line moved-line
 ids-shifted near left side now [] = refl
 ids-shifted near left side now (l ∷ ls) = ap (λ (js : List ℕ). l .terms .id ∷ js) (ids-shifted near left side now ls)
-
-known-in : (id : ℕ) (ls : List Line) → known id ls ≡ foldr (λ (j : ℕ) (b : Bool). eqb j id || b) false (ids ls)
-unfolding known
-known-in id [] = refl
-known-in id (l ∷ ls) = ap (λ (b : Bool). eqb (l .terms .id) id || b) (known-in id ls)
-
-known-shifted : (near : Millionths) (left : ℕ) (side : Side) (now : Seconds) (id : ℕ) (ls : List Line)
-    → known id (map (shift-line near left side now) ls) ≡ known id ls
-known-shifted near left side now id ls =
-    known-in id (map (shift-line near left side now) ls) ∙ rw (ids-shifted near left side now ls) (sym (known-in id ls))
 
 verdict-shifted : (side : Side) (now : Seconds) (s : State) (e : Event) → verdict (shifted side now s) e ≡ verdict s e
 unfolding verdict in-session shifted
 verdict-shifted side now s Damaged = refl
 verdict-shifted side now s (Tick t) = refl
-verdict-shifted side now s (Quoted q) = rw (known-shifted (s .near) (s .left - 1) side now (q .id) (s .lines))
+verdict-shifted side now s (Quoted q) = rw (ids-shifted (s .near) (s .left - 1) side now (s .lines))
 
 pub verdict-after : (cs : List ShiftLine) (s : State) (e : Event) → verdict (after cs s) e ≡ verdict s e
 unfolding after

@@ -194,6 +194,16 @@ in-time-found t s (At x) l h = rw (lt-ltb 0 (s .left) l) (go (ltb (t .0) (x .sec
     go false false ea eb =
         record { place = x .place; stands = h .0; ahead = h .1; in-time = ltb-false _ _ ea; before-end = leb-false _ _ eb; named = refl }
 
+-- and where none is left
+either-nothing : (t : Bool) → cond t Nothing Nothing ≡ Nothing
+either-nothing true = refl
+either-nothing false = refl
+
+pub none-left : (t end : Seconds) (left : ℕ) (d : Found) → left ≡ 0 → in-time t end left d ≡ Nothing
+unfolding in-time
+none-left t end left Nothing e = refl
+none-left t end left (At x) e = rw (e, either-nothing, either-nothing)
+
 pub next-due-found : (t : Seconds) (s : State) → 0 < s .left → FoundIn t s (next-due t s)
 unfolding next-due
 next-due-found t s l = in-time-found t s (earliest (s .hold) 0 (s .lines) Nothing) l (first-of-all s)

@@ -1,29 +1,24 @@
 -- The moments of a session: right answers lead from one to another, and every moment keeps the ranges, and holds as they are to stand.
 -- What a shift and an applied event keep is so kept by every list of answers. Assumes nothing.
-use mathlib.Core.Path.{_≡_, refl, sym, ap, _∙_}
-use mathlib.Core.Bool.{Bool, true, false, _&&_}
+use mathlib.Core.Path.{_≡_, refl, _∙_}
 use mathlib.Core.List.{List, [], _∷_, _++_, append-nil, append-assoc}
-use Prim.Native.Nat.{ℕ, suc, _<_}
+use Prim.Native.Nat.{ℕ, suc}
 use native.Mathlib.Omega.{arith}
-use lib.Dec.{ltb}
-use lib.ListN.{length, getD}
-use borrow.Author.Tests.{ltb-true}
-use Rattle.numbers.proofs.Tests.{both}
-use Rattle.method.specs.words.Types.{Up, Down, Seconds, Millionths, ShiftLine, State, blank}
-use Rattle.method.specs.words.Wire.{bit}
+use lib.ListN.{length}
+use Rattle.method.specs.words.Types.{Seconds, ShiftLine, State}
 use Rattle.method.specs.words.Ranges.{Every}
-use Rattle.method.specs.words.Pressure.{presses}
-use Rattle.method.specs.words.Holds.{First, hold-of}
+use Rattle.method.specs.words.Holds.{First}
 use Rattle.method.specs.words.Sessions.{Answer, accepted, refused, lines-of, joined}
 use Rattle.method.specs.computed.Shift.{shifted, onward, after}
 use Rattle.method.specs.computed.Event.{read, next}
 use Rattle.method.specs.computed.Relation.{Calls, time, Right, Answers, reached}
 use Rattle.method.specs.computed.Later.{Later, start, shift, event}
 use Rattle.method.specs.computed.Rooms.{OpeningIn, LineIn, Sane}
-use Rattle.method.specs.computed.Sound.{standing, Exact}
-use Rattle.method.proofs.Every.{every-weaker, every-else}
+use Rattle.method.specs.computed.Sound.{Exact}
+use Rattle.method.proofs.Every.{every-weaker}
 use Rattle.method.proofs.Exact.{exact-shifted, exact-applied, exact-opened}
 use Rattle.method.proofs.Events.{read-in, verdict-after}
+use Rattle.method.proofs.Serving.{first-left, after-append, calls-rest}
 use Rattle.method.proofs.Sane.{sane-opening, sane-shifted, sane-applied}
 
 -- ---- answers lead from a moment to a moment
@@ -50,22 +45,12 @@ moment-reached (b ∷ bs) [] m r = absurd r
 moment-reached (b ∷ bs) (a ∷ rs) m r = rw append-assoc at (moment-reached bs rs (moment-next b a m (r .0)) (r .1))
 
 -- ---- what is split: a list of shift lines, and a list of answers
-after-rest : (cs ds : List ShiftLine) (s : State) → after (cs ++ ds) s ≡ after ds (after cs s)
-unfolding after
-after-rest [] ds s = refl
-after-rest (c ∷ cs) ds s = after-rest cs ds (onward s c)
-
-calls-rest : (t : Seconds) (cs ds : List ShiftLine) (s : State) → Calls t s (cs ++ ds) → Calls t (after cs s) ds
-unfolding Calls after
-calls-rest t [] ds s h = h
-calls-rest t (c ∷ cs) ds s h = calls-rest t cs ds (onward s c) (h .1)
-
 pub moment-rest : (s : State) (b : List ℕ) (cs ds : List ShiftLine) → Right s (read b) (accepted (cs ++ ds))
     → Later (after cs s) ds (next s (read b) (accepted (cs ++ ds)))
 unfolding Right next
 moment-rest s b cs ds r =
-    rw (after-rest cs ds s)
-    (event (moment-after (time (read b)) ds [] start (rw append-nil (calls-rest (time (read b)) cs ds s (r .1)))) b
+    rw (after-append cs ds s)
+    (event (moment-after (time (read b)) ds [] start (rw append-nil (calls-rest (time (read b)) s cs ds (r .1)))) b
     (verdict-after ds (after cs s) (read b) ∙ verdict-after cs s (read b) ∙ r .0))
 
 pub record Split (s : State) (bs ds : List (List ℕ)) (rs qs : List Answer) : Type 0 where
@@ -88,24 +73,6 @@ answers-split s (b ∷ bs) ds (a ∷ rs) qs e h =
     let p = answers-split (next s (read b) a) bs ds rs qs (omega arith) (h .1) in
     record { first = (h .0, p .first); rest = p .rest; last = p .last }
 
--- ---- a shift line that goes first has a standing hold, and so shifts are left
-silent : (a : Bool) → false ≡ (a && false)
-silent true = refl
-silent false = refl
-
-exact-blank : (near : Millionths) (left : ℕ) → Exact near left blank
-unfolding Exact presses bit
-exact-blank near left Up = silent (ltb 0 left)
-exact-blank near left Down = silent (ltb 0 left)
-
-pub shifts-left : (t : Seconds) (s : State) (c : ShiftLine) → Every (Exact (s .near) (s .left)) (s .lines) → First t s c → 0 < s .left
-unfolding Exact
-shifts-left t s c ps f =
-    let l = getD (s .lines) (f .place) blank in
-    let stands : standing (hold-of (c .side) (l .holds)) ≡ true = ap standing (f .stands .held) in
-    let e = every-else (Exact (s .near) (s .left)) (s .lines) blank (f .place) ps (exact-blank (s .near) (s .left)) (c .side) in
-    ltb-true 0 (s .left) (both (ltb 0 (s .left)) (presses (c .side) (s .near) l) (sym e ∙ stands) .0)
-
 -- ---- ranges and holds at every moment
 pub record Held (s : State) : Type 0 where
   pub sane : Sane s
@@ -118,7 +85,7 @@ held-opening s o =
 held-onward : (t : Seconds) (s : State) (c : ShiftLine) → Held s → First t s c → Held (onward s c)
 held-onward t s c h f =
     record {
-      sane = sane-shifted (c .side) (c .second) s (shifts-left t s c (h .exact) f) (omega (arith, f .before-end, h .sane .end)) (h .sane);
+      sane = sane-shifted (c .side) (c .second) s (first-left (h .exact) f) (omega (arith, f .before-end, h .sane .end)) (h .sane);
       exact = unfold shifted in exact-shifted (c .side) (c .second) s;
     }
 

@@ -5,6 +5,7 @@ pub mod Bounds
 pub mod Floor
 pub mod Corridor
 pub mod Opening
+pub mod Head
 pub mod Table
 pub mod Decided
 pub mod LineAnswered

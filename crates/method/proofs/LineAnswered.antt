@@ -1,44 +1,49 @@
 -- Rule 1 for one contract: which answer it has after some contracts before it. Assumes nothing.
-use mathlib.Core.Path.{_≡_}
+use mathlib.Core.Path.{_≡_, refl, ap}
 use mathlib.Core.Bool.{true}
-use mathlib.Core.List.{List, map}
+use mathlib.Core.List.{List, [], _∷_, map}
 use Prim.Native.Nat.{ℕ}
 use lib.Dec.{leb, ltb}
 use lib.IntN.{pos}
 use lib.Signed.{leZ}
 use borrow.Author.Tests.{leb-true, leb-false, ltb-true, not-true, le-leb, lt-leb, lt-ltb}
 use Rattle.numbers.proofs.Tests.{both, both-true, le-true, le-false, true-le, false-le}
-use Rattle.method.specs.words.Types.{Key, Contract, Millionths, Line, TableReason}
+use Rattle.method.specs.words.Types.{Key, Contract, Millionths, Line, TableReason, ids}
 use Rattle.method.specs.words.Growth.{most-exponent}
 use Rattle.method.specs.words.Opening.{exponent-of, terms-of, market-of, fresh-line}
 use Rattle.method.specs.words.Tables.{Fresh, its-terms, its-corridor, its-line, Good, Fault}
-use Rattle.method.specs.told.Questions.{known}
+use Rattle.method.specs.told.Questions.{listed}
 use Rattle.method.specs.computed.Types.{LineAnswer}
 use Rattle.method.specs.computed.Opening.{fields-good, id-good, inside-bounds, opened-with, open-line}
 use Rattle.method.proofs.Every.{every-of-map, every-to-map}
 use Rattle.method.proofs.Opening.{contract-in}
 use Rattle.method.proofs.Demands.{by-demand}
-use Rattle.method.proofs.Decided.{denied, refuted, known-not, not-known, fields-test, inside-in, inside-test}
+use Rattle.method.proofs.Decided.{denied, refuted, not-any, not-listed, fields-test, inside-in, inside-test}
 
 -- ---- the ids of the lines that contracts open are the contracts' own
 module _ (shift : Millionths) (keys : List Key) where
   abbrev pub lines-of : List Contract → List Line
   lines-of cs = map (its-line shift keys) cs
 
-  -- that an id stands on none of these lines
-  abbrev NotOn : ℕ → Line → Type 0
-  NotOn id l = l .terms .id ≡ id → ⊥
+  abbrev its-id : Contract → ℕ
+  its-id c = its-line shift keys c .terms .id
+
+  -- the ids of these lines, read one by one off the contracts
+  ids-of : (cs : List Contract) → ids (lines-of cs) ≡ map its-id cs
+  ids-of [] = refl
+  ids-of (c ∷ cs) = ap (λ (is : List ℕ). its-id c ∷ is) (ids-of cs)
 
   fresh-in : (earlier : List Contract) (id : ℕ) → id-good (lines-of earlier) id ≡ true → Fresh earlier id
   unfolding id-good fresh-line terms-of
   fresh-in earlier id e =
       let p = both (ltb 0 id) _ e in
-      let new = known-not id (lines-of earlier) (not-true (known id (lines-of earlier)) (p .1)) in
-      record { given = ltb-true 0 id (p .0); new = every-of-map (NotOn id) (its-line shift keys) earlier new }
+      let new = rw (ids-of earlier) at (not-any id (ids (lines-of earlier)) (not-true (listed id (ids (lines-of earlier))) (p .1))) in
+      record { given = ltb-true 0 id (p .0); new = every-of-map (λ i. i ≡ id → ⊥) its-id earlier new }
 
   fresh-test : (earlier : List Contract) (id : ℕ) → Fresh earlier id → id-good (lines-of earlier) id ≡ true
   unfolding id-good fresh-line terms-of
-  fresh-test earlier id r = both-true (lt-ltb 0 id (r .given)) (rw (not-known id (lines-of earlier) (every-to-map (NotOn id) (its-line shift keys) earlier (r .new))))
+  fresh-test earlier id r = both-true (lt-ltb 0 id (r .given))
+      (rw (not-listed id (ids (lines-of earlier)) (rw (ids-of earlier) (every-to-map (λ i. i ≡ id → ⊥) its-id earlier (r .new)))))
 
   -- ---- one contract
   pub data LineAnswered (earlier : List Contract) (c : Contract) : LineAnswer → Type 0 where

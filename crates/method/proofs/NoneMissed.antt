@@ -16,7 +16,8 @@ use Rattle.method.proofs.Bounds.{other}
 use Rattle.method.proofs.EveryLine.{onward-keeps}
 use Rattle.method.proofs.HoldLife.{Judged, onward-life, held-pressed}
 use Rattle.method.proofs.FirstFound.{not-later}
-use Rattle.method.proofs.Serving.{judged-onward, left-onward, calls-left}
+use Rattle.method.proofs.Head.{left-onward}
+use Rattle.method.proofs.Serving.{judged-onward, calls-left}
 use Rattle.method.proofs.OtherSide.{Fit, fit-shift, fit-quote, presses-on}
 
 this-or-other : (a b : Side) → (a ≡ b) ⊎ (b ≡ other a)

@@ -5,7 +5,7 @@ use mathlib.Core.List.{List, [], _∷_, _++_}
 use mathlib.Core.Logic.{_↔_}
 use Prim.Native.Nat.{ℕ, _+_, _≤_, _<_}
 use native.Mathlib.Omega.{arith}
-use Rattle.method.specs.words.Types.{Seconds, ShiftLine, State, EventReason, EventAnswer, seconds}
+use Rattle.method.specs.words.Types.{Seconds, ShiftLine, State, EventReason, EventAnswer, seconds, ids}
 use Rattle.method.specs.words.Wire.{word}
 use Rattle.method.specs.words.Ranges.{Every}
 use Rattle.method.specs.words.Events.{IsEvent, EventAnswered, tick-taken, quote-taken}
@@ -13,7 +13,6 @@ use Rattle.method.specs.words.Holds.{Done}
 use Rattle.method.specs.words.Sessions.{Answer, accepted, refused, joined, LineApplied, AppliedTo, Serves, nothing, first, Follows, AnswersInWords, no-more, taken, turned-away, Struck}
 use Rattle.method.specs.words.Rules.{Opens}
 use Rattle.method.specs.laws.Stages.{Reported}
-use Rattle.method.specs.computed.Opening.{ids}
 use Rattle.method.specs.computed.Shift.{onward, after}
 use Rattle.method.specs.computed.Event.{read, verdict, applied, next}
 use Rattle.method.specs.computed.Relation.{Calls, Right, Answers, reached}
@@ -29,7 +28,7 @@ use Rattle.method.proofs.EventAnswered.{event-answered, answered-verdic
 use Rattle.method.proofs.HoldLife.{Judged, held-pressed}
 use Rattle.method.proofs.Serving.{judged-onward, after-judged, calls-unique, calls-done, first-later}
 use Rattle.method.proofs.Answers.{next-sound, sound-opening, sound-reached, run-right, finally-reached}
-use Rattle.method.proofs.Books.{Alike, each-alike, alike-after, same-ids, distinct-opening, accepted-time}
+use Rattle.method.proofs.Books.{SameBook, each-same-book, same-book-after, same-ids, distinct-opening, accepted-time}
 use Rattle.method.proofs.Later.{Held, held-moment, moment-reached}
 use Rattle.method.proofs.OneStep.{shifted-in-words, applied-in-words, shifted-one, applied-one}
 
@@ -72,7 +71,7 @@ is-event (tick-taken t i) = IsEvent.tick t
 is-event (quote-taken q i k c) = IsEvent.quote q
 
 distinct-after : (cs : List ShiftLine) (s : State) → Distinct (ids (s .lines)) → Distinct (ids (after cs s .lines))
-distinct-after cs s d = subst Distinct (same-ids Alike (λ o l a. a .terms) (s .lines) (after cs s .lines) (alike-after (s .lines) cs s (each-alike (s .lines)))) d
+distinct-after cs s d = subst Distinct (same-ids SameBook (λ o l a. a .terms) (s .lines) (after cs s .lines) (same-book-after (s .lines) cs s (each-same-book (s .lines)))) d
 
 module _ (s : State) (v : Sound s) (d : Distinct (ids (s .lines))) (b : List ℕ) (cs : List ShiftLine) where
   abbrev t : Seconds

@@ -16,7 +16,7 @@ use Rattle.method.specs.words.Bounds.{bound}
 use Rattle.method.specs.words.Pressure.{close, price, presses}
 use Rattle.method.specs.laws.Seen.{presses-at}
 use Rattle.method.specs.computed.Types.{Quote}
-use Rattle.method.specs.computed.Judge.{judge}
+use Rattle.method.specs.computed.Judge.{judge-line}
 use Rattle.method.specs.computed.Shift.{moved, redrawn, moved-line, shift-line, shifted, onward}
 use Rattle.method.specs.computed.Event.{quoted-line}
 use Rattle.method.specs.computed.Rooms.{Room}
@@ -116,16 +116,16 @@ close-on near Down l p f e = up-on near (l .limits) (redraw l Down) p (floored-u
 
 line-on : (near : Millionths) (left : ℕ) (to : Side) (now : Seconds) (l : Line) → Fit l → presses (other to) near l ≡ true
     → presses (other to) near (shift-line near left to now l) ≡ true
-unfolding presses shift-line judge moved-line
+unfolding presses shift-line judge-line moved-line
 line-on near left to now l f e = and-on (under-watch (l .terms .flags)) (close-on near to l (price (other to) (l .book)) f) e
 
 pub fit-shift : (near : Millionths) (left : ℕ) (to : Side) (now : Seconds) (l : Line) → Fit l → Fit (shift-line near left to now l)
-unfolding shift-line judge moved-line
+unfolding shift-line judge-line moved-line
 fit-shift near left Up now l f = record { by = f .by; least = unfold redrawn in f .least }
 fit-shift near left Down now l f = record { by = f .by; least = floored-least (raw-floored l) }
 
 pub fit-quote : (near : Millionths) (left : ℕ) (q : Quote) (l : Line) → Fit l → Fit (quoted-line near left q l)
-unfolding quoted-line judge
+unfolding quoted-line judge-line
 fit-quote near left q l f = record { by = f .by; least = f .least }
 
 -- ---- the line at every place

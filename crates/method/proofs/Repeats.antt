@@ -11,13 +11,13 @@ use Rattle.method.specs.words.Ranges.{Every}
 use Rattle.method.specs.words.Books.{PriceSaid, BookSaid}
 use Rattle.method.specs.laws.Ticks.{NothingNew, tick, repeat}
 use Rattle.method.specs.computed.Types.{Quote, Event, Damaged, Tick, Quoted}
-use Rattle.method.specs.computed.Judge.{judge}
+use Rattle.method.specs.computed.Judge.{judge-line}
 use Rattle.method.specs.computed.Shift.{moved-line, shift-line, shifted, onward, after}
 use Rattle.method.specs.computed.Event.{price-of, read, verdict, with-book, quoted-line, quoted, applied}
 use Rattle.method.specs.computed.Relation.{time}
 use Rattle.method.specs.computed.Sound.{Exact}
 use Rattle.method.proofs.Every.{every-map, every-weaker}
-use Rattle.method.proofs.Exact.{judge-same}
+use Rattle.method.proofs.Exact.{judged-again}
 use Rattle.method.proofs.Events.{not-accepted}
 use Rattle.method.proofs.HoldLife.{Judged}
 use Rattle.method.proofs.EventAnswered.{the-quote, read-tick-is, read-quote-is}
@@ -51,7 +51,7 @@ still-read s b (repeat r) =
 
 -- ---- a shift changes no id and no book
 still-onward : (e : Event) (s : State) (c : ShiftLine) → Still s e → Still (onward s c) e
-unfolding Still shifted shift-line judge moved-line
+unfolding Still shifted shift-line judge-line moved-line
 still-onward Damaged s c h = tt
 still-onward (Tick t) s c h = tt
 still-onward (Quoted q) s c h =
@@ -66,7 +66,7 @@ still-after e (c ∷ cs) s h = still-after e cs (onward s c) (still-onward e s c
 module _ (near : Millionths) (left : ℕ) (q : Quote) where
   line-same : (l : Line) → Exact near left l → l .book ≡ book-of q → quoted-line near left q l ≡ l
   unfolding quoted-line
-  line-same l x e = ap (judge near left (q .time)) book ∙ judge-same near left (q .time) l x
+  line-same l x e = ap (judge-line near left (q .time)) book ∙ judged-again near left (q .time) l x
     where
       book : with-book l (q .bid) (q .ask) ≡ l
       book = λ i. record { terms = l .terms; market = l .market; limits = l .limits; book = sym e i; holds = l .holds }

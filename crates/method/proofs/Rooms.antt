@@ -1,20 +1,19 @@
 -- The ranges of one line: they hold at opening, and are kept by a shift, which uses one of those left, and by a quote. Assumes nothing.
-use mathlib.Core.Bool.{Bool, true, false, cond, _&&_}
+use mathlib.Core.Bool.{Bool, true, false, cond}
 use Prim.Native.Nat.{ℕ, suc, _≤_, _<_}
 use native.Mathlib.Omega.{arith}
-use lib.Dec.{ltb, lit<}
+use lib.Dec.{lit<}
 use lib.IntN.{ℤ, pos, _+ℤ_}
 use lib.Signed.{leZ-yes}
 use Rattle.numbers.specs.Ranges.{Within, Span}
 use Rattle.numbers.proofs.Halves.{zarith, apart, add-is}
 use Rattle.numbers.proofs.Linear.{≤ℤ-trans}
 use Rattle.numbers.proofs.Ranges.{within-more, within-pos, within-add, within-sub, within-mul, floor-within, ceiling-within, within-squeeze}
-use Rattle.method.specs.words.Types.{Side, Up, Down, Seconds, Millionths, Terms, Market, Absent, Hold, Idle, Since, Holds, Line, steps}
+use Rattle.method.specs.words.Types.{Side, Up, Down, Seconds, Millionths, Terms, Market, Limits, Absent, Book, Hold, Idle, Since, Holds, Line, steps}
 use Rattle.method.specs.words.Ranges.{longest-session, most-shifts, largest-price}
 use Rattle.method.specs.words.Bounds.{market-bound, factor, interest, bound}
-use Rattle.method.specs.words.Pressure.{presses}
-use Rattle.method.specs.computed.Types.{Quote}
-use Rattle.method.specs.computed.Judge.{judged, judge}
+use Rattle.method.specs.computed.Types.{Watch, Quote}
+use Rattle.method.specs.computed.Judge.{judged, called-for, judge, watch-of, judge-line}
 use Rattle.method.specs.computed.Shift.{toward, moved, ended, moved-line, shift-line}
 use Rattle.method.specs.computed.Event.{quoted-line}
 use Rattle.method.specs.computed.Rooms.{largest-half-move, reach, largest-factor, largest-market-bound, largest-bound, FactorsIn, LineIn, MarketRoom, PriceIn, HoldIn, HoldsIn, Room}
@@ -27,8 +26,8 @@ cond-within false h g = g
 
 pub factor-in : (side : Side) {t : Terms} → FactorsIn t → factor side t ≤ largest-factor
 unfolding factor
-factor-in Up {t} r = cond-within (t .below) (omega (arith, r .down .most)) (r .up .most)
-factor-in Down {t} r = cond-within (t .below) (r .up .most) (omega (arith, r .down .most))
+factor-in Up {t} r = cond-within (t .negative) (omega (arith, r .down .most)) (r .up .most)
+factor-in Down {t} r = cond-within (t .negative) (r .up .most) (omega (arith, r .down .most))
 
 pub span-within : {k : ℕ} {z : ℤ} → Span (pos 1) (pos k) z → Within k z
 span-within {k} {z} r = record { above = omega (zarith, r .least, r .most, apart z); below = omega (zarith, r .least, apart z) }
@@ -58,6 +57,26 @@ module _ {left : ℕ} {l : Line} (r : Room left l) where
       let k = r .limits in
       within-squeeze (bound Down (l .terms) (l .market)) (l .limits .lower .0) (bound Up (l .terms) (l .market)) (k .lower) (≤ℤ-trans (k .ordered) (k .upper))
       (bound-in Down (r .terms .factors) (r .market)) (bound-in Up (r .terms .factors) (r .market))
+
+-- ---- room for more shifts is room for fewer
+span-fewer : {m n : ℕ} {h : ℤ} → m ≤ n → Span (pos 1) (pos (reach n)) h → Span (pos 1) (pos (reach m)) h
+span-fewer few r = record { least = r .least; most = omega (zarith, r .most) }
+
+pub room-fewer : {m n : ℕ} {l : Line} → m ≤ n → Room n l → Room m l
+room-fewer few r =
+    record {
+      terms = r .terms;
+      market =
+          record {
+            centre = within-more (r .market .centre) (omega arith);
+            half1 = span-fewer few (r .market .half1);
+            half2 = span-fewer few (r .market .half2);
+            half3 = span-fewer few (r .market .half3);
+          };
+      limits = r .limits;
+      book = r .book;
+      holds = r .holds;
+    }
 
 -- ---- a shift: the market
 half-moved : (left : ℕ) (h by : ℤ) → left < most-shifts → Span (pos 1) (pos largest-half-move) by → Span (pos 1) (pos (reach (suc left))) h
@@ -95,19 +114,24 @@ judged-in now false h e i = tt
 judged-in now true Idle e i = e
 judged-in now true (Since start) e i = i
 
-pub room-judge : (near : Millionths) (left : ℕ) (now : Seconds) {k : ℕ} {l : Line} → now .0 ≤ longest-session → Room k l → Room k (judge near left now l)
+judge-in : (w : Watch) (near : Millionths) (left : ℕ) (now : Seconds) (k : Limits) (b : Book) (h : Holds) → now .0 ≤ longest-session → HoldsIn h
+    → HoldsIn (judge w near left now k b h)
 unfolding judge
-room-judge near left now {k} {l} h r =
+judge-in w near left now k b h e i =
+    record {
+      up = judged-in now (called-for Up w near left k b) (h .up) e (i .up);
+      down = judged-in now (called-for Down w near left k b) (h .down) e (i .down);
+    }
+
+room-judged : (near : Millionths) (left : ℕ) (now : Seconds) {n : ℕ} {l : Line} → now .0 ≤ longest-session → Room n l → Room n (judge-line near left now l)
+unfolding judge-line
+room-judged near left now {l = l} h r =
     record {
       terms = r .terms;
       market = r .market;
       limits = r .limits;
       book = r .book;
-      holds =
-          record {
-            up = judged-in now (ltb 0 left && presses Up near l) (l .holds .up) h (r .holds .up);
-            down = judged-in now (ltb 0 left && presses Down near l) (l .holds .down) h (r .holds .down);
-          };
+      holds = judge-in (watch-of l) near left now (l .limits) (l .book) (l .holds) h (r .holds);
     }
 
 -- ---- the whole line: shifted, quoted, opened
@@ -122,16 +146,17 @@ room-moved side {left} {l} few r =
       holds = ended-in side (r .holds);
     }
 
-pub room-shifted : (near : Millionths) (left : ℕ) (side : Side) (now : Seconds) {l : Line} → left < most-shifts → now .0 ≤ longest-session → Room (suc left) l
-    → Room left (shift-line near left side now l)
+-- the shifts that a line is judged by may be fewer than those that it has room for
+pub room-shifted : (near : Millionths) (left : ℕ) (side : Side) (now : Seconds) {n : ℕ} {l : Line} → n < most-shifts → now .0 ≤ longest-session → Room (suc n) l
+    → Room n (shift-line near left side now l)
 unfolding shift-line
-room-shifted near left side now few h r = room-judge near left now h (room-moved side few r)
+room-shifted near left side now few h r = room-judged near left now h (room-moved side few r)
 
-pub room-quoted : (near : Millionths) (left : ℕ) (q : Quote) {l : Line} → q .time .0 ≤ longest-session → PriceIn (q .bid) → PriceIn (q .ask) → Room left l
-    → Room left (quoted-line near left q l)
+pub room-quoted : (near : Millionths) (left : ℕ) (q : Quote) {n : ℕ} {l : Line} → q .time .0 ≤ longest-session → PriceIn (q .bid) → PriceIn (q .ask) → Room n l
+    → Room n (quoted-line near left q l)
 unfolding quoted-line
 room-quoted near left q h bid ask r =
-    room-judge near left (q .time) h
+    room-judged near left (q .time) h
     (record { terms = r .terms; market = r .market; limits = r .limits; book = record { bid = bid; ask = ask }; holds = r .holds })
 
 half-opened : {left : ℕ} {h : ℤ} → left ≤ most-shifts → Span (pos 1) (pos largest-price) h → Span (pos 1) (pos (reach left)) h

@@ -14,7 +14,7 @@ use Rattle.method.specs.words.Rules.{Opens, EverySession}
 use Rattle.method.specs.laws.Seen.{Caller, Timely, AtOnce}
 use Rattle.method.specs.laws.Stages.{Stage, Begun, Throughout}
 use Rattle.method.specs.laws.Rule2.{OneSession, EventAtOnce, NothingLeft, NoneMissed, HoldsStandExactly, HoldsStandBetween, InOrder, EachLineCalledFor, EachLineReported, ShiftsCounted, AtMostSixteen, Rule2, AtMostOne, WheneverLooked, AtOpening, TableKept}
-use Rattle.method.specs.computed.Shift.{after}
+use Rattle.method.specs.computed.Shift.{after, most-left}
 use Rattle.method.specs.computed.Event.{read, next}
 use Rattle.method.specs.computed.Relation.{Calls, time, Right}
 use Rattle.method.specs.computed.Search.{run, finally}
@@ -27,12 +27,13 @@ use Rattle.method.proofs.TableAnswered.{answered-table}
 use Rattle.method.proofs.EventAnswered.{answered-verdict}
 use Rattle.method.proofs.EveryLine.{after-keeps}
 use Rattle.method.proofs.HoldLife.{holds-exact}
-use Rattle.method.proofs.Serving.{after-kept, after-judged, calls-left, calls-rest, first-caller}
+use Rattle.method.proofs.Head.{after-kept}
+use Rattle.method.proofs.Serving.{after-judged, calls-spend, calls-rest, first-caller}
 use Rattle.method.proofs.Answers.{
   opening-idle,
-  applied-kept,
   next-clock,
-  kept-reached,
+  next-kept,
+  reached-kept,
   next-done,
   next-timely,
   next-count,
@@ -64,10 +65,10 @@ module _ (o : State) (p : Proper o) {past : List (List ℕ)} {told : List Answer
   sound = t .proper .sound
 
   fit : Every Fit (s .lines)
-  fit = every-weaker (Room (s .left)) Fit fit-room (s .lines) (t .proper .sane .rooms)
+  fit = every-weaker (Room (most-left s)) Fit fit-room (s .lines) (t .proper .sane .rooms)
 
   same-end : s .end ≡ o .end
-  same-end = rw (t .is) (kept-reached o past told .end)
+  same-end = rw (t .is) (reached-kept o past told .end)
 
   module _ {b : List ℕ} {cs : List ShiftLine} {n : State} (f : Follows s b cs n) where
     right : Right s (read b) (accepted cs)
@@ -80,10 +81,7 @@ module _ (o : State) (p : Proper o) {past : List (List ℕ)} {told : List Answer
     at = accepted-time s b (answered-verdict s b (f .taken))
 
     kept : SameTable s n
-    kept =
-        let k = applied-kept (read b) (after cs s) in
-        let j = after-kept cs s in
-        rw is-next (unfold next in record { end = k .end ∙ j .end; hold = k .hold ∙ j .hold; near = k .near ∙ j .near })
+    kept = rw is-next (next-kept s (read b) (accepted cs))
 
     at-once : AtOnce s b cs n
     at-once =
@@ -168,7 +166,7 @@ module _ {From : State → Type 0} (proper : (o : State) → From o → Proper o
   pub rule2-at-most-sixteen : AtMostSixteen From
   rule2-at-most-sixteen o q past told s h b cs n f =
       let p = proper o q in
-      let lines = calls-left (time (read b)) s cs (sound o p h .exact) (unfold Right in right o p h f .1) in
+      let lines = calls-spend (time (read b)) s cs (sound o p h .exact) (unfold Right in right o p h f .1) in
       let most = told-from o p h .proper .sane .left in
       omega arith
 
@@ -207,7 +205,7 @@ rule2-at-opening o q =
 pub rule2-table-kept : TableKept
 unfolding opening-state
 rule2-table-kept o q bs rs s h =
-    let k = kept-reached o bs rs in
+    let k = reached-kept o bs rs in
     let opens = accepted-table (q .table) o (answered-table (q .table) (q .opened-by)) .opens in
     rw (told-from o (opens-proper o q) h .is)
     (record {

@@ -8,7 +8,7 @@ use native.Mathlib.Omega.{arith}
 use lib.IntN.{ℤ, pos, _+ℤ_, _-ℤ_}
 use lib.Signed.{_≤ℤ_, _<ℤ_}
 use Rattle.numbers.proofs.Halves.{zarith, add-is, sub-is}
-use Rattle.method.specs.words.Types.{Side, Up, Down, Line, ShiftLine, State, steps}
+use Rattle.method.specs.words.Types.{Side, Up, Down, Line, ShiftLine, State, steps, ids}
 use Rattle.method.specs.words.Ranges.{permits-negative}
 use Rattle.method.specs.words.Bounds.{bound}
 use Rattle.method.specs.words.Sessions.{Answer, joined, AnswersInWords}
@@ -16,7 +16,7 @@ use Rattle.method.specs.words.Margins.{margin, FloorMet, at-opening, in-
 use Rattle.method.specs.words.Rules.{Opens, Moment, start, Centres, HalfWidthsGrow, ShiftsWithin, NeverInward, UpperInside, LowerInside}
 use Rattle.method.specs.laws.Seen.{Shifted, StaysFrozen}
 use Rattle.method.specs.laws.Rule3.{FrozenTells, FrozenForGood, OnlyOutward, LinesShifted, OneLine, AnswersLead, ShiftsLead}
-use Rattle.method.specs.computed.Opening.{ids}
+use Rattle.method.specs.computed.Shift.{most-left}
 use Rattle.method.specs.computed.Later.{Later}
 use Rattle.method.specs.computed.Rooms.{OpeningIn, Room}
 use Rattle.method.specs.computed.Sound.{Distinct, Proper}
@@ -92,7 +92,7 @@ rule3-never-inward o s r cs ds q m n = never-inward o s r cs ds (opens-proper o 
 
 pub frozen-for-good : FrozenForGood Proper
 frozen-for-good o s r cs ds p m n =
-    each-with (Room (r .left)) Limited StaysFrozen
+    each-with (Room (most-left r)) Limited StaysFrozen
     (λ x l v w. record { frozen = w .frozen; lower = λ y. v .limits .floor .frozen-at (w .frozen y) }) (s .lines) (r .lines)
     (held-moment (here o p m n) (thence o p m n) .sane .rooms) (wider-moment (here o p m n) (thence o p m n))
 

@@ -1,5 +1,5 @@
 -- What an accepted table tells: the ranges of the header, of the keys, and of every opened line. Assumes nothing.
-use mathlib.Core.Path.{_≡_, refl, ap, subst}
+use mathlib.Core.Path.{_≡_, refl, ap, subst, _∙_}
 use mathlib.Core.Bool.{Bool, true, false, cond}
 use mathlib.Core.List.{List, [], _∷_, _++_}
 use mathlib.Core.Option.{Option, none, some}
@@ -16,10 +16,12 @@ use Rattle.method.specs.words.Tables.{opened, refused, opening-state}
 use Rattle.method.specs.computed.Types.{LineAnswer}
 use Rattle.method.specs.computed.Opening.{open-line}
 use Rattle.method.specs.computed.Table.{header-good, laid-out, key-good, bad-key, if-opened, open-lines, if-keys-good, open-records, opening}
+use Rattle.method.specs.computed.Shift.{most-left}
 use Rattle.method.specs.computed.Rooms.{LineIn, OpeningIn}
 use Rattle.method.proofs.Every.{every-last}
 use Rattle.method.proofs.Demands.{met-by}
 use Rattle.method.proofs.Opening.{open-line-in}
+use Rattle.method.proofs.Head.{most-opened}
 
 -- ---- the header
 pub header-in : (h : Header) → header-good h ≡ true → HeaderIn h
@@ -108,7 +110,7 @@ state-in h n s i e r =
       clock = ap (λ (x : State). x .clock) (r .state);
       end = rw (ap (λ (x : State). x .end) (r .state)) (i .end);
       hold = rw (ap (λ (x : State). x .hold) (r .state)) (i .hold);
-      left = rw (ap (λ (x : State). x .left) (r .state)) (i .most);
+      left = rw (ap most-left (r .state) ∙ most-opened h (s .lines)) (i .most);
       near = rw (ap (λ (x : State). x .near) (r .state)) (i .near);
     }
 

@@ -10,11 +10,11 @@ use Rattle.method.specs.words.Sessions.{Answer, accepted, refused, joine
 use Rattle.method.specs.laws.Ticks.{Accepts, Refuses, Put, TwoLooksAreOne, Same, Thinned, none, kept, dropped-refused, dropped-free}
 use Rattle.method.specs.computed.Event.{read, verdict, next}
 use Rattle.method.specs.computed.Relation.{time, Right}
-use Rattle.method.specs.computed.Search.{serve, answer, run, finally}
+use Rattle.method.specs.computed.Search.{served-by, answer, run, finally}
 use Rattle.method.specs.computed.Sound.{Proper}
 use Rattle.method.proofs.Every.{every-weaker}
 use Rattle.method.proofs.EventAnswered.{event-answered, answered-verdict}
-use Rattle.method.proofs.Serving.{serve-calls}
+use Rattle.method.proofs.Serving.{served-calls}
 use Rattle.method.proofs.Books.{accepted-time}
 use Rattle.method.proofs.Repeats.{Still, still-read}
 use Rattle.method.proofs.Looks.{taken-later, taken-sooner, two-looks}
@@ -47,9 +47,9 @@ record Taken (s : State) (b : List ℕ) : Type 0 where
 
 takes : (s : State) (b : List ℕ) → Proper s → Accepts s b → Taken s b
 takes s b p a =
-    let cs : List ShiftLine = serve (s .left) (time (read b)) s in
+    let cs : List ShiftLine = served-by (time (read b)) s in
     let r : Right s (read b) (accepted cs)
-    = unfold Right in (answered-verdict s b a, serve-calls (s .left) (time (read b)) s refl (p .sound .exact)) in
+    = unfold Right in (answered-verdict s b a, served-calls (time (read b)) s (p .sound .exact)) in
     record { cs = cs; state = next s (read b) (accepted cs); follows = right-follows s (p .sound) (p .distinct) b cs r }
 
 -- ---- less none

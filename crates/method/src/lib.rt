@@ -58,11 +58,11 @@ pub struct Factors {
     pub down: Billionths,
 }
 
-// Fixed for the session. `below` says that the settlement price was negative.
+// Fixed for the session. `negative` says that the settlement price was negative.
 pub struct Terms {
     pub id: u32,
     pub flags: u32,
-    pub below: bool,
+    pub negative: bool,
     pub halfmove: Steps,
     pub factors: Factors,
 }
@@ -233,6 +233,12 @@ pub enum Row {
 
 // ==== of what is computed
 
+// Which sides are watched: of a contract both, or neither.
+pub struct Watch {
+    pub up: bool,
+    pub down: bool,
+}
+
 pub struct Quote {
     pub time: Seconds,
     pub id: u32,
@@ -256,6 +262,12 @@ pub enum LineAnswer {
     Opened(Line),
     Refused(TableReason),
 }
+
+// What stands past the last key of an array.
+pub const NO_KEY: Key = Key {
+    days: 0,
+    rate: Millionths(0),
+};
 
 // ==== the ends of ranges
 

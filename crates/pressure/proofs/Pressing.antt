@@ -1,6 +1,6 @@
--- What the steps of the near test come to fits an `i64`, from what they ask. Assumes nothing.
+-- What the steps of the near test come to fits an `i64`, from what they ask; and a line's room is all that its pressure asks. Assumes nothing.
 use mathlib.Core.Path.{_≡_, subst}
-use Prim.Native.Nat.{ℕ, _<_, _^_}
+use Prim.Native.Nat.{ℕ, _≤_, _<_, _^_}
 use native.Mathlib.Omega.{arith}
 use lib.Dec.{lit<, lit≤}
 use lib.IntN.{ℤ, pos, _-ℤ_, _*ℤ_}
@@ -9,11 +9,12 @@ use mir.Val.{SFits}
 use Rattle.numbers.specs.Ranges.{Within}
 use Rattle.numbers.proofs.Ranges.{fits, within-more, within-sub, within-mul, within-pos, within-lit}
 use Rattle.numbers.proofs.Machine.{cast-back}
-use Rattle.method.specs.words.Ranges.{whole}
+use Rattle.method.specs.words.Ranges.{whole, largest-near-share}
 use Rattle.method.specs.words.Pressure.{price}
-use Rattle.method.specs.computed.Rooms.{largest-bound, PriceIn, BookIn}
-use Rattle.pressure.specs.Names.{Side, Up, Down, Steps, Limits, Price, Given, Book}
-use Rattle.pressure.specs.Asks.{Apart}
+use Rattle.method.specs.computed.Rooms.{largest-limit, PriceIn, BookIn, Room}
+use Rattle.method.proofs.Rooms.{upper-in, lower-in}
+use Rattle.pressure.specs.Names.{Side, Up, Down, Steps, Millionths, Limits, Price, Given, Book, Line}
+use Rattle.pressure.specs.Asks.{LimitsWithin, Apart, Pressed}
 
 module _ {near : ℕ} {k : Limits} {a b : ℤ} (q : Apart near k a b) where
   pub distance-fits : SFits w64 (a -ℤ b)
@@ -34,10 +35,18 @@ module _ {near : ℕ} {k : Limits} {a b : ℤ} (q : Apart near k a b) where
 pub ruleset distances = (distance-fits, width-fits, distance-product, width-product, share-fits, cast-back)
 
 -- ---- a price that is given
-pub given-in : {x : Price} {p : Steps} → x ≡ Given p → PriceIn x → Within largest-bound (p .0)
+pub given-in : {x : Price} {p : Steps} → x ≡ Given p → PriceIn x → Within largest-limit (p .0)
 unfolding PriceIn
 given-in {x} {p} e h = within-more (subst PriceIn e h) (lit≤ tt)
 
 pub price-in : (side : Side) {b : Book} → BookIn b → PriceIn (price side b)
 price-in Up q = q .bid
 price-in Down q = q .ask
+
+-- ---- a line that has its room
+module _ {n : ℕ} {l : Line} (r : Room n l) where
+  pub room-limits : LimitsWithin (l .limits)
+  room-limits = record { upper = within-more (upper-in r) (lit≤ tt); lower = within-more (lower-in r) (lit≤ tt) }
+
+  pub room-pressed : {near : Millionths} → near .0 ≤ largest-near-share → Pressed near l
+  room-pressed h = record { share = h; limits = room-limits; book = r .book }

@@ -3,19 +3,19 @@ use Prim.Native.Nat.{ℕ, _≤_}
 use lib.IntN.{ℤ}
 use Rattle.numbers.specs.Ranges.{Within}
 use Rattle.method.specs.words.Ranges.{largest-near-share}
-use Rattle.method.specs.computed.Rooms.{largest-bound, PriceIn, BookIn}
-use Rattle.pressure.specs.Names.{Millionths, Limits, Price, Line}
+use Rattle.method.specs.computed.Rooms.{largest-limit, PriceIn, BookIn}
+use Rattle.pressure.specs.Names.{Millionths, Limits, Price, Book, Line}
 
 pub record LimitsWithin (k : Limits) : Type 0 where
-  pub upper : Within largest-bound (k .upper .0)
-  pub lower : Within largest-bound (k .lower .0)
+  pub upper : Within largest-limit (k .upper .0)
+  pub lower : Within largest-limit (k .lower .0)
 
 -- what the near test asks of a distance a - b
 pub record Apart (near : ℕ) (k : Limits) (a b : ℤ) : Type 0 where
   pub share : near ≤ largest-near-share
   pub limits : LimitsWithin k
-  pub from : Within largest-bound a
-  pub to : Within largest-bound b
+  pub from : Within largest-limit a
+  pub to : Within largest-limit b
 
 -- what a price's test asks
 pub record Tested (near : Millionths) (k : Limits) (p : Price) : Type 0 where
@@ -23,8 +23,11 @@ pub record Tested (near : Millionths) (k : Limits) (p : Price) : Type 0 where
   pub limits : LimitsWithin k
   pub price : PriceIn p
 
--- what the pressure of a line asks
-pub record Pressed (near : Millionths) (l : Line) : Type 0 where
+-- what pressure asks of limits and a book, and so of a line
+pub record Judgeable (near : Millionths) (k : Limits) (b : Book) : Type 0 where
   pub share : near .0 ≤ largest-near-share
-  pub limits : LimitsWithin (l .limits)
-  pub book : BookIn (l .book)
+  pub limits : LimitsWithin k
+  pub book : BookIn b
+
+abbrev pub Pressed : Millionths → Line → Type 0
+Pressed near l = Judgeable near (l .limits) (l .book)

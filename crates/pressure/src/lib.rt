@@ -1,10 +1,10 @@
-// Pressure of a line on each side, and what it does to the line's holds.
+// Pressure on each side, and what it does to holds: of whatever has limits, a book and holds, and so of a line.
 
 ghost use mathlib.Core.Path.{_≡_};
 ghost use lib.IntN.{_-ℤ_};
-ghost use Rattle.method.specs.words.Pressure.{near-by, close, price, presses};
-ghost use Rattle.method.specs.computed.Judge.{judged, judge};
-ghost use Rattle.pressure.specs.Asks.{Apart, Tested, Pressed};
+ghost use Rattle.method.specs.words.Pressure.{near-by, close, price, under-pressure, presses};
+ghost use Rattle.method.specs.computed.Judge.{judged, judge, judge-line};
+ghost use Rattle.pressure.specs.Asks.{Apart, Tested, Judgeable, Pressed};
 use method::Book;
 use method::Hold;
 use method::Holds;
@@ -12,6 +12,7 @@ use method::Limits;
 use method::Line;
 use method::Price;
 use method::Side;
+use method::Watch;
 use numbers::Millionths;
 use numbers::Seconds;
 use numbers::Steps;
@@ -59,14 +60,12 @@ fn price(side: Side, b: Book) -> Price
     }
 }
 
-// The watch is tested first: a line that is not watched costs no product.
-pub fn presses(side: Side, near: Millionths, l: Line) -> bool
-    requires { ⌜ Pressed near l ⌝ }
-    ensures { λ r. ⌜ r ≡ presses side near l ⌝ }
+// The watch is tested first: a side that is not watched costs no product.
+fn under_pressure(watched: bool, side: Side, near: Millionths, k: Limits, b: Book) -> bool
+    requires { ⌜ Judgeable near k b ⌝ }
+    ensures { λ r. ⌜ r ≡ under-pressure watched side near k b ⌝ }
 {
-    if wire::bit_1(l.terms.flags) {
-        let k = l.limits;
-        let b = l.book;
+    if watched {
         return close(side, near, k, price(side, b));
     }
     false
@@ -85,23 +84,55 @@ fn judged(now: Seconds, pressed: bool, h: Hold) -> Hold
     Hold::Idle
 }
 
-// Both holds of a line. Where no shift is left no hold exists, and no price is looked at.
-pub fn judge(near: Millionths, left: u32, now: Seconds, l: Line) -> Line
-    requires { ⌜ Pressed near l ⌝ }
-    ensures { λ r. ⌜ r ≡ judge near left now l ⌝ }
+// Both holds, over all that they hang on. Where no shift is left no hold exists, and no price is looked at.
+pub fn judge(
+    w: Watch,
+    near: Millionths,
+    left: u32,
+    now: Seconds,
+    k: Limits,
+    b: Book,
+    h: Holds,
+) -> Holds
+    requires { ⌜ Judgeable near k b ⌝ }
+    ensures { λ r. ⌜ r ≡ judge w near left now k b h ⌝ }
 {
     if left == 0 {
-        let none = Holds {
+        return Holds {
             up: Hold::Idle,
             down: Hold::Idle,
         };
-        return Line { holds: none, ..l };
     }
-    let old = l.holds;
-    let up = old.up;
-    let down = old.down;
-    let u = judged(now, presses(Side::Up, near, l), up);
-    let d = judged(now, presses(Side::Down, near, l), down);
-    let holds = Holds { up: u, down: d };
+    let up = h.up;
+    let down = h.down;
+    let u = judged(now, under_pressure(w.up, Side::Up, near, k, b), up);
+    let d = judged(now, under_pressure(w.down, Side::Down, near, k, b), down);
+    Holds { up: u, down: d }
+}
+
+// ---- a line
+
+pub fn presses(side: Side, near: Millionths, l: Line) -> bool
+    requires { ⌜ Pressed near l ⌝ }
+    ensures { λ r. ⌜ r ≡ presses side near l ⌝ }
+{
+    let k = l.limits;
+    let b = l.book;
+    under_pressure(wire::bit_1(l.terms.flags), side, near, k, b)
+}
+
+pub fn judge_line(near: Millionths, left: u32, now: Seconds, l: Line) -> Line
+    requires { ⌜ Pressed near l ⌝ }
+    ensures { λ r. ⌜ r ≡ judge-line near left now l ⌝ }
+{
+    let watched = wire::bit_1(l.terms.flags);
+    let w = Watch {
+        up: watched,
+        down: watched,
+    };
+    let k = l.limits;
+    let b = l.book;
+    let h = l.holds;
+    let holds = judge(w, near, left, now, k, b, h);
     Line { holds: holds, ..l }
 }

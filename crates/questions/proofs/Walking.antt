@@ -1,4 +1,4 @@
--- A walk over a session's lines finds the place of an id; `known` and `line-of` speak of that place. Assumes nothing.
+-- A walk over a session's lines finds the place of an id; `listed` and `line-of` speak of that place. Assumes nothing.
 use mathlib.Core.Path.{_≡_, refl, sym, ap, _∙_, subst}
 use mathlib.Core.Bool.{true, false}
 use mathlib.Core.List.{List, [], _∷_}
@@ -9,19 +9,19 @@ use borrow.Author.Tests.{eq-eqb, ne-eqb}
 use lib.ListN.{length, getD, drop}
 use lib.Seq.{getD-take}
 use Rattle.numbers.proofs.Arrays.{passing, all-passed}
-use Rattle.method.specs.words.Types.{blank}
-use Rattle.method.specs.told.Questions.{known, line-of}
+use Rattle.method.specs.words.Types.{blank, ids}
+use Rattle.method.specs.told.Questions.{listed, known, line-of}
 use Rattle.corridor.specs.View.{view, Valid}
 use Rattle.corridor.proofs.Views.{view-length}
 use Rattle.corridor.proofs.Named.{Named, named-below}
 use Rattle.questions.specs.Names.{Line, Session}
 
 -- ---- the place of an id
-pub named-known : (id : ℕ) (ls : List Line) (p : ℕ) → Named id ls p → known id ls ≡ true
-unfolding Named known
-named-known id [] p h = absurd h
-named-known id (l ∷ ls) zero h = rw (eq-eqb (l .terms .id) id h)
-named-known id (l ∷ ls) (suc p) h = rw (ne-eqb (l .terms .id) id (h .0)) (named-known id ls p (h .1))
+pub named-listed : (id : ℕ) (ls : List Line) (p : ℕ) → Named id ls p → listed id (ids ls) ≡ true
+unfolding Named listed
+named-listed id [] p h = absurd h
+named-listed id (l ∷ ls) zero h = rw (eq-eqb (l .terms .id) id h)
+named-listed id (l ∷ ls) (suc p) h = rw (ne-eqb (l .terms .id) id (h .0)) (named-listed id ls p (h .1))
 
 named-line : (id : ℕ) (ls : List Line) (p : ℕ) → Named id ls p → line-of id ls ≡ getD ls p blank
 unfolding Named line-of
@@ -31,7 +31,7 @@ named-line id (l ∷ ls) (suc p) h = rw (ne-eqb (l .terms .id) id (h .0)) (named
 
 -- ---- the search: none of the first k lines has the id
 pub record Unnamed (id : ℕ) (ls : List Line) (k : ℕ) : Type 0 where
-  pub rest : known id (drop k ls) ≡ known id ls
+  pub rest : listed id (ids (drop k ls)) ≡ listed id (ids ls)
   pub on : (p : ℕ) → Named id (drop k ls) p → Named id ls (k + p)
 
 unnamed-start : (id : ℕ) (ls : List Line) → Unnamed id ls 0
@@ -43,16 +43,16 @@ module _ (id : ℕ) (ls : List Line) (k : ℕ) (u : Unnamed id ls k) where
   unnamed-met l e h = subst (Named id ls) (omega arith) (u .on 0 (rw e h))
 
   unnamed-turn : (l : Line) → drop k ls ≡ l ∷ drop (suc k) ls → (l .terms .id ≡ id → ⊥) → Unnamed id ls (suc k)
-  unfolding known Named
+  unfolding listed Named
   unnamed-turn l e h =
       record {
-        rest = sym (ap (known id) e ∙ (rw (ne-eqb (l .terms .id) id h))) ∙ u .rest;
+        rest = sym (ap (λ (xs : List Line). listed id (ids xs)) e ∙ (rw (ne-eqb (l .terms .id) id h))) ∙ u .rest;
         on = λ p g. subst (Named id ls) (omega arith) (u .on (suc p) (rw e (h, g)));
       }
 
-  unnamed-all : drop k ls ≡ [] → known id ls ≡ false
-  unfolding known
-  unnamed-all e = sym (u .rest) ∙ ap (known id) e
+  unnamed-all : drop k ls ≡ [] → listed id (ids ls) ≡ false
+  unfolding listed
+  unnamed-all e = sym (u .rest) ∙ ap (λ (xs : List Line). listed id (ids xs)) e
 
 -- ---- the walk over a session's lines: i of them are passed, and none has the id
 pub record Walk (s : Session) (id i : ℕ) : Type 0 where
@@ -74,7 +74,7 @@ module _ (s : Session) (id i : ℕ) (v : Valid s) (w : Walk s id i) where
       let here = passing i (s .count) (s .lines) blank g room in
       record { inside = omega arith; unnamed = rw add-one (unnamed-turn id (view s .lines) i (w .unnamed) (getD (s .lines) i blank) here h) }
 
-  pub walk-all : s .count ≤ i → known id (view s .lines) ≡ false
+  pub walk-all : s .count ≤ i → known id (view s) ≡ false
   walk-all g =
       let last : i ≡ s .count = omega (arith, w .inside) in
       unnamed-all id (view s .lines) i (w .unnamed) (rw last (all-passed (s .count) (s .lines) room))

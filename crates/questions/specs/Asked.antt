@@ -6,4 +6,4 @@ use Rattle.questions.specs.declared.Sought.{Sought}
 
 -- the line of an id
 unfoldable pub sought : ℕ → State → Sought
-sought id s = demand (known id (s .lines)) Sought.Nowhere (Sought.At (line-of id (s .lines)))
+sought id s = demand (known id s) Sought.Nowhere (Sought.At (line-of id (s .lines)))

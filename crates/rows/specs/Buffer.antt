@@ -9,5 +9,5 @@ module _ {A : Type 0} where
   written out at xs = take at out ++ xs ++ drop (at + length xs) out
 
 -- the numbers that so many bytes of events may come to: six a row, a row for each event, and so many rows more
-abbrev pub room : ℕ → ℕ → ℕ
-room size more = 6 * ((size + 19) / 20 + more)
+abbrev pub needed : ℕ → ℕ → ℕ
+needed size more = 6 * ((size + 19) / 20 + more)

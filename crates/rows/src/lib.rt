@@ -8,7 +8,7 @@ ghost use lib.ListN.{length, take};
 ghost use Rattle.method.specs.words.Ranges.{most-shifts};
 ghost use Rattle.method.specs.told.Refusals.{table-number, event-number};
 ghost use Rattle.method.specs.told.Rows.{row-numbers, numbers-of, side-number};
-ghost use Rattle.rows.specs.Buffer.{written, room};
+ghost use Rattle.rows.specs.Buffer.{written, needed};
 use method::EventReason;
 use method::Row;
 use method::ShiftLine;
@@ -121,9 +121,9 @@ pub fn write_shifts(out: &mut [i64], at: usize, shifts: [ShiftLine; 16], made: u
 }
 
 // The room for the rows of so many bytes of events: a row for each event, and as many more.
-pub fn room(size: usize, more: usize) -> usize
+pub fn needed(size: usize, more: usize) -> usize
     requires { ⌜ more ≤ 100 ⌝ }
-    ensures { λ r. ⌜ r ≡ room size more ⌝ }
+    ensures { λ r. ⌜ r ≡ needed size more ⌝ }
 {
     let whole = size / 20;
     if size % 20 == 0 {

@@ -6,7 +6,7 @@ ghost use lib.ListN.{length};
 ghost use Rattle.method.specs.declared.Row.the-variants as RowOf;
 ghost use Rattle.method.specs.told.Text.{line-text};
 ghost use Rattle.corridor.specs.View.{Valid};
-ghost use Rattle.feeding.specs.Feeding.{room, left-by};
+ghost use Rattle.feeding.specs.Feeding.{feed-needs, left-by};
 ghost use Rattle.session.specs.Printing.{told-text, closing-text, Begins};
 use corridor::Session;
 use method::Row;
@@ -20,11 +20,11 @@ pub(crate) struct Answered {
 
 // A chunk of events.
 pub(crate) fn chunk(s: Session, events: &[u8], numbers: &mut [i64], buffer: &mut [u8]) -> Answered
-    requires { ⌜ Valid s × (room (length (now events)) ≤ length (now numbers)) × (20 * room (length (now events)) ≤ length (now buffer)) ⌝ }
+    requires { ⌜ Valid s × (feed-needs (length (now events)) ≤ length (now numbers)) × (20 * feed-needs (length (now events)) ≤ length (now buffer)) ⌝ }
     ensures { λ r. ⌜ r .session ≡ left-by s (now (events .entry)) ⌝ }
     ensures { λ r. ⌜ Begins (now (buffer .exit)) (r .size) (told-text s (now (events .entry))) ⌝ }
 {
-    let a = counting::answered(s, events, numbers);
+    let a = counting::fed(s, events, numbers);
     let count = a.count;
     let size = text::lines(&numbers[..count], buffer);
     let session = a.session;

@@ -6,16 +6,11 @@ use Rattle.method.specs.words.Ranges.{longest-hold, most-shifts, largest-near-s
 use Rattle.method.specs.computed.Shift.{moved-line}
 use Rattle.method.specs.computed.Event.{with-book}
 use Rattle.method.specs.computed.Rooms.{PriceIn, HoldsIn, Room}
-use Rattle.method.proofs.Rooms.{span-within, upper-in, lower-in, room-moved}
-use Rattle.pressure.specs.Asks.{LimitsWithin, Pressed}
+use Rattle.method.proofs.Rooms.{span-within, room-moved}
+use Rattle.pressure.specs.Asks.{Pressed}
+use Rattle.pressure.proofs.Pressing.{room-limits, room-pressed}
 use Rattle.shifts.specs.Names.{Side, Millionths, Price, Line}
 use Rattle.shifts.specs.Asks.{Shiftable, Shifts}
-
-room-limits : {left : ℕ} {l : Line} → Room left l → LimitsWithin (l .limits)
-room-limits r = record { upper = upper-in r; lower = lower-in r }
-
-pub room-presses : (near : Millionths) {left : ℕ} {l : Line} → near .0 ≤ largest-near-share → Room left l → Pressed near l
-room-presses near h r = record { share = h; limits = room-limits r; book = r .book }
 
 -- ---- what a shift asks, and what it asks of its parts
 pub room-shifts : (near : Millionths) {left : ℕ} {l : Line} → left < most-shifts → near .0 ≤ largest-near-share → Room (suc left) l → Shifts near left l
@@ -40,7 +35,7 @@ module _ {near : Millionths} {left : ℕ} {l : Line} (q : Shifts near left l) wh
       }
 
   pub shifts-pressed : (side : Side) → Pressed near (moved-line side l)
-  shifts-pressed side = room-presses near (q .share) (room-moved side (q .few) (q .room))
+  shifts-pressed side = room-pressed (room-moved side (q .few) (q .room)) (q .share)
 
 -- ---- what a quote and the search ask
 pub room-quotes : (near : Millionths) (bid ask : Price) {left : ℕ} {l : Line} → near .0 ≤ largest-near-share → PriceIn bid → PriceIn ask → Room left l

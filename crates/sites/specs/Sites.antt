@@ -17,7 +17,7 @@ use Rattle.corridor.specs.declared.Session.{Session}
 use Rattle.rows.specs.declared.RowsAnswer.{RowsAnswer}
 use Rattle.feeding.specs.declared.Fed.{Fed}
 use Rattle.corridor.specs.View.{view, Valid}
-use Rattle.feeding.specs.Feeding.{room, fed, fed-into}
+use Rattle.feeding.specs.Feeding.{feed-needs, fed, fed-into}
 use Rattle.feeding.specs.Chunks.{all-bytes, WholeButLast, told-in, left-in}
 use Rattle.corridor.specs.Engine.{one-by-one, left-after}
 
@@ -45,7 +45,7 @@ OnlyShiftsAreLines = (rs : List Answer) → only-shifts (numbers-of (rows-of-all
 -- ---- fed in one buffer
 -- r is handed back by `feed` for the bytes b, with room for the rows, and `now` stands in the lent buffer then
 pub record FedWith (s : Session) (b : List ℕ) (out : List ℤ) (r : Fed) (now : List ℤ) : Type 0 where
-  pub enough : room (length b) ≤ length out
+  pub enough : feed-needs (length b) ≤ length out
   pub handed : r ≡ fed s (length out) b
   pub buffer : now ≡ fed-into s out b
 

@@ -15,7 +15,7 @@ use Rattle.method.specs.told.Rows.{rows-of, numbers-of}
 use Rattle.method.specs.computed.Event.{read}
 use Rattle.method.specs.computed.Relation.{Right, Answers}
 use Rattle.method.specs.computed.Search.{answer, run}
-use Rattle.method.proofs.Answers.{next-count, run-right}
+use Rattle.method.proofs.Answers.{next-spend, run-right}
 use Rattle.rows.specs.Buffer.{written}
 use Rattle.rows.proofs.Buffer.{numbers-long}
 use Rattle.corridor.specs.declared.Session.{Session}
@@ -25,7 +25,7 @@ use Rattle.corridor.specs.Reply.{no-shift, reply-of}
 use Rattle.corridor.specs.Engine.{reply-to}
 use Rattle.events.proofs.Cutting.{Cut, fewer}
 use Rattle.feeding.proofs.Feeding.{rows-count, reply-rows, Ahead, ahead-long, ahead-turn}
-use Rattle.stepwise.specs.Told.{told-of}
+use Rattle.stepwise.specs.ReplyRows.{told-of}
 
 -- ---- the rows of an answer
 told-rows : (q : EventAnswer) (cs : List ShiftLine) (made : ℕ) → told-of q cs made ≡ numbers-of (reply-rows q cs made)
@@ -62,7 +62,7 @@ module _ (o : Session) (b : List ℕ) (out : List ℤ) {s : Session} {at from to
     fits : (q : Answer) → Right (view s) (read piece) q → Fits (reply-of s (read piece) q)
     unfolding reply-of
     fits (accepted cs) q =
-        let n = next-count (view s) (read piece) (accepted cs) (h .valid .sound) q in
+        let n = next-spend (view s) (read piece) (accepted cs) (h .valid .sound) q in
         let few : length cs ≤ 16 = omega (arith, n, h .valid .sane .left) in
         record { few = few; full = padded-length 16 no-shift cs few; room = omega (arith, n, h .left) }
     fits (refused why) q = record { few = omega arith; full = length-replicate 16 no-shift; room = omega (arith, fewer b c, h .left) }

@@ -18,7 +18,7 @@ use Rattle.corridor.specs.declared.Session.{Session}
 use Rattle.rows.specs.declared.RowsAnswer.{RowsAnswer}
 use Rattle.feeding.specs.declared.Fed.{Fed}
 use Rattle.corridor.specs.View.{view, opened-session}
-use Rattle.feeding.specs.Feeding.{room, fed, fed-into}
+use Rattle.feeding.specs.Feeding.{feed-needs, fed, fed-into}
 use Rattle.corridor.specs.Engine.{one-by-one}
 
 -- r is handed back and `now` stands in the buffer, after the answers rs to the byte strings bs, from the opening state o
@@ -34,7 +34,7 @@ pub record Rightly (o : State) (bs : List (List ℕ)) (rs : List Answer) (out : 
 -- that `event` gives to the pieces one by one. [stepwise-is-right]
 abbrev pub StepwiseIsRight : Type 0
 StepwiseIsRight =
-    (table : List ℕ) (o : State) → TableAnswered table (opened o) → (b : List ℕ) (out : List ℤ) → room (length b) ≤ length out
+    (table : List ℕ) (o : State) → TableAnswered table (opened o) → (b : List ℕ) (out : List ℤ) → feed-needs (length b) ≤ length out
     → let s : Session = opened-session (opening table) .session in
     (r : Fed) (now : List ℤ) → r ≡ fed s (length out) b → now ≡ fed-into s out b
     → Rightly o (events-of b) (one-by-one s (events-of b)) out r now

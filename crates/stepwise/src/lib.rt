@@ -7,7 +7,7 @@ ghost use lib.ListN.{length};
 ghost use Rattle.rows.specs.Buffer.{written};
 ghost use Rattle.corridor.specs.View.{Valid};
 ghost use Rattle.feeding.specs.Feeding.{fed, fed-into};
-ghost use Rattle.stepwise.specs.Told.{told-of};
+ghost use Rattle.stepwise.specs.ReplyRows.{told-of};
 use corridor::Session;
 use feeding::Fed;
 use method::EventAnswer;
@@ -44,7 +44,7 @@ pub fn feed(first: Session, events: &[u8], out: &mut [i64]) -> Fed
     ensures { λ _. ⌜ now (out .exit) ≡ fed-into first (now (out .entry)) (now (events .entry)) ⌝ }
 {
     let size = events.len();
-    let needed = rows::room(size, 16);
+    let needed = rows::needed(size, 16);
     if out.len() < needed {
         return Fed {
             answer: RowsAnswer::NoRoom(needed),

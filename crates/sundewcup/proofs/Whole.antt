@@ -22,7 +22,7 @@ use Rattle.method.specs.declared.TableReason.{TableReason}
 use Rattle.rows.specs.Buffer.{written}
 use Rattle.rows.proofs.Buffer.{written-long, written-on, written-rest, row-long, numbers-append, numbers-one}
 use Rattle.corridor.specs.declared.Session.{Session}
-use Rattle.corridor.specs.declared.Opened.{Opened}
+use Rattle.corridor.specs.declared.OpenReply.{OpenReply}
 use Rattle.rows.specs.declared.RowsAnswer.{RowsAnswer}
 use Rattle.corridor.specs.View.{view, no-session, opened-session, Valid}
 use Rattle.feeding.specs.Feeding.{answers-told, told, left-by}
@@ -30,20 +30,20 @@ use Rattle.closing.specs.Closing.{closing-numbers}
 use Rattle.corridor.proofs.Views.{view-put}
 use Rattle.corridor.proofs.Theorems.{valid-opened}
 use Rattle.feeding.proofs.Chunks.{told-fits, valid-left}
-use Rattle.counting.specs.declared.Told.{Told}
-use Rattle.counting.specs.Answered.{answered}
+use Rattle.counting.specs.declared.Counted.{Counted}
+use Rattle.counting.specs.Counted.{counted}
 use Rattle.counting.proofs.Answering.{closing-few}
-use Rattle.sundewcup.specs.Running.{room, rows-told, ran, ran-into}
+use Rattle.sundewcup.specs.Running.{run-needs, rows-told, ran, ran-into}
 
 -- ---- where the room is not there
-module _ (table events : List ℕ) (out : List ℤ) {k : ℕ} (e : k ≡ room (length events)) (h : length out < k) where
+module _ (table events : List ℕ) (out : List ℤ) {k : ℕ} (e : k ≡ run-needs (length events)) (h : length out < k) where
   pub none-ran : RowsAnswer.NoRoom k ≡ ran (length out) table events
   unfolding ran
-  none-ran = rw (e, lt-ltb (length out) (room (length events)) (omega arith)) refl
+  none-ran = rw (e, lt-ltb (length out) (run-needs (length events)) (omega arith)) refl
 
   pub none-into : out ≡ ran-into out table events
   unfolding ran-into
-  none-into = rw (lt-ltb (length out) (room (length events)) (omega arith)) refl
+  none-into = rw (lt-ltb (length out) (run-needs (length events)) (omega arith)) refl
 
 -- ---- the rows of a table's answer
 abbrev refusal-row : TableAnswer → List ℤ
@@ -70,19 +70,19 @@ rows-opened (opened s) b z said e =
 rows-opened (refused why line) b z said e = absurd (subst IsOpened (sym said) tt)
 
 -- ---- where it is: the rows are those of the method
-module _ (table events : List ℕ) (out : List ℤ) (enough : room (length events) ≤ length out) where
+module _ (table events : List ℕ) (out : List ℤ) (enough : run-needs (length events) ≤ length out) where
   all-ran : (n : ℕ) → n ≡ length (rows-told table events) → RowsAnswer.Written n ≡ ran (length out) table events
   unfolding ran
-  all-ran n e = rw (le-ltb (length out) (room (length events)) enough, e) refl
+  all-ran n e = rw (le-ltb (length out) (run-needs (length events)) enough, e) refl
 
   all-into : (now : List ℤ) → now ≡ written out 0 (rows-told table events) → now ≡ ran-into out table events
   unfolding ran-into
-  all-into now e = rw (le-ltb (length out) (room (length events)) enough) e
+  all-into now e = rw (le-ltb (length out) (run-needs (length events)) enough) e
 
   -- a refused table
-  module _ (o : Opened) (eo : o ≡ opened-session (opening table)) (why : TableReason) (line : ℕ) (said : o .answer ≡ TableAnswer.Refused why line) where
+  module _ (o : OpenReply) (eo : o ≡ opened-session (opening table)) (why : TableReason) (line : ℕ) (said : o .answer ≡ TableAnswer.Refused why line) where
     turned-away : rows-told table events ≡ row-numbers (Row.RefusedTable why line)
-    turned-away = rows-refused (opening table) (events-of events) why line (sym (ap (λ (z : Opened). z .answer) eo) ∙ said)
+    turned-away = rows-refused (opening table) (events-of events) why line (sym (ap (λ (z : OpenReply). z .answer) eo) ∙ said)
 
     pub refused-ran : RowsAnswer.Written 6 ≡ ran (length out) table events
     refused-ran = all-ran 6 (sym (ap length turned-away ∙ row-long (Row.RefusedTable why line)))
@@ -91,7 +91,7 @@ module _ (table events : List ℕ) (out : List ℤ) (enough : room (length event
     refused-into e = all-into _ (e ∙ ap (written out 0) (sym turned-away))
 
   -- an opened one
-  module _ (o : Opened) (eo : o ≡ opened-session (opening table)) (said : o .answer ≡ TableAnswer.Opened) where
+  module _ (o : OpenReply) (eo : o ≡ opened-session (opening table)) (said : o .answer ≡ TableAnswer.Opened) where
     abbrev first : Session
     first = o .session
 
@@ -108,17 +108,17 @@ module _ (table events : List ℕ) (out : List ℤ) (enough : room (length event
     closing = closing-numbers last
 
     rows-are : rows-told table events ≡ told first events ++ closing
-    rows-are = rows-opened (opening table) events first (sym (ap (λ (z : Opened). z .answer) eo) ∙ said) (ap (λ (z : Opened). z .session) eo)
+    rows-are = rows-opened (opening table) events first (sym (ap (λ (z : OpenReply). z .answer) eo) ∙ said) (ap (λ (z : OpenReply). z .session) eo)
 
     fits : length (told first events) + length closing ≤ length out
     fits = omega (arith, told-fits first events first-valid, closing-few last last-valid)
 
-    module _ (a : Told) (ea : a ≡ answered first events) {now : List ℤ} (en : now ≡ written out 0 (told first events)) where
+    module _ (a : Counted) (ea : a ≡ counted first events) {now : List ℤ} (en : now ≡ written out 0 (told first events)) where
       abbrev at : ℕ
       at = a .count
 
       at-is : at ≡ length (told first events)
-      at-is = ap (λ (z : Told). z .count) ea
+      at-is = ap (λ (z : Counted). z .count) ea
 
       pub told-long : length now ≡ length out
       told-long = ap length en ∙ written-long out 0 (told first events) (omega (arith, fits))
@@ -143,7 +143,7 @@ module _ (table events : List ℕ) (out : List ℤ) (enough : room (length event
       none-after = drop-of-length-le (drop at now) {i = length now - at} (omega (arith, length-drop at now))
 
       closing-is : closing-numbers (a .session) ≡ closing
-      closing-is = ap (λ (z : Told). closing-numbers (z .session)) ea
+      closing-is = ap (λ (z : Counted). closing-numbers (z .session)) ea
 
       module _ {n : ℕ} (e : n ≡ length (closing-numbers (a .session))) where
         pub opened-small : at + n ≤ length out

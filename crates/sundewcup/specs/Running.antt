@@ -9,12 +9,12 @@ use Rattle.method.specs.told.Rows.{numbers-of}
 use Rattle.method.specs.told.Program.{events-of}
 use Rattle.method.specs.computed.Table.{opening}
 use Rattle.method.specs.computed.Program.{rows-after}
-use Rattle.rows.specs.Buffer.{written, room as rows-room}
+use Rattle.rows.specs.Buffer.{written, needed}
 use Rattle.rows.specs.declared.RowsAnswer.{RowsAnswer}
 
 -- the room for the rows of a whole session: 16 shifts and 32 contracts at most
-abbrev pub room : ℕ → ℕ
-room size = rows-room size 48
+abbrev pub run-needs : ℕ → ℕ
+run-needs size = needed size 48
 
 -- all rows in numbers
 abbrev pub rows-told : List ℕ → List ℕ → List ℤ
@@ -23,8 +23,8 @@ rows-told table events = numbers-of (rows-after (opening table) (events-of event
 -- what is handed back for a buffer of so many numbers
 unfoldable pub ran : ℕ → List ℕ → List ℕ → RowsAnswer
 ran size table events =
-    cond (ltb size (room (length events))) (RowsAnswer.NoRoom (room (length events))) (RowsAnswer.Written (length (rows-told table events)))
+    cond (ltb size (run-needs (length events))) (RowsAnswer.NoRoom (run-needs (length events))) (RowsAnswer.Written (length (rows-told table events)))
 
 -- what the buffer holds then
 unfoldable pub ran-into : List ℤ → List ℕ → List ℕ → List ℤ
-ran-into out table events = cond (ltb (length out) (room (length events))) out (written out 0 (rows-told table events))
+ran-into out table events = cond (ltb (length out) (run-needs (length events))) out (written out 0 (rows-told table events))

@@ -2,7 +2,7 @@
 
 ghost use mathlib.Core.Path.{_≡_};
 ghost use lib.ListN.{length};
-ghost use Rattle.counting.specs.Answered.{number-in};
+ghost use Rattle.counting.specs.Counted.{number-in};
 ghost use Rattle.sundewcup.specs.Running.{ran, ran-into};
 use method::Row;
 use method::TableAnswer;
@@ -14,7 +14,7 @@ pub fn run(table: &[u8], events: &[u8], out: &mut [i64]) -> RowsAnswer
     ensures { λ r. ⌜ r ≡ ran (length (now (out .entry))) (now (table .entry)) (now (events .entry)) ⌝ }
     ensures { λ _. ⌜ now (out .exit) ≡ ran-into (now (out .entry)) (now (table .entry)) (now (events .entry)) ⌝ }
 {
-    let needed = rows::room(events.len(), 48);
+    let needed = rows::needed(events.len(), 48);
     if out.len() < needed {
         return RowsAnswer::NoRoom(needed);
     }
@@ -27,7 +27,7 @@ pub fn run(table: &[u8], events: &[u8], out: &mut [i64]) -> RowsAnswer
         }
         TableAnswer::Opened => {
             let session = o.session;
-            let a = counting::answered(session, events, out);
+            let a = counting::fed(session, events, out);
             let at = a.count;
             let last = a.session;
             let more = counting::closed(last, &mut out[at..]);

@@ -8,27 +8,27 @@ use borrow.Author.Tests.{lt-ltb, eq-eqb, ne-eqb}
 use lib.Dec.{ltb}
 use lib.ListN.{length, getD, take, drop}
 use Rattle.numbers.proofs.Arrays.{passing, all-passed}
-use Rattle.method.specs.words.Types.{blank}
-use Rattle.method.specs.told.Questions.{known}
+use Rattle.method.specs.words.Types.{blank, ids}
+use Rattle.method.specs.told.Questions.{listed}
 use Rattle.method.specs.computed.Opening.{id-good}
 use Rattle.table.specs.Names.{Line}
 
 abbrev pub Unmet : ℕ → List Line → ℕ → ℕ → Type 0
-Unmet n lines id i = known id (drop i (take n lines)) ≡ known id (take n lines)
+Unmet n lines id i = listed id (ids (drop i (take n lines))) ≡ listed id (ids (take n lines))
 
 module _ (n : ℕ) (lines : List Line) (id i : ℕ) (u : Unmet n lines id i) (h : n ≤ length lines) where
   pub unmet-turn : i < n → (getD lines i blank .terms .id ≡ id → ⊥) → Unmet n lines id (i + 1)
   unmet-turn g e = rw add-one (sym passed ∙ u)
     where
-      passed : known id (drop i (take n lines)) ≡ known id (drop (suc i) (take n lines))
-      passed = unfold known in rw (passing i n lines blank g h, ne-eqb (getD lines i blank .terms .id) id e)
+      passed : listed id (ids (drop i (take n lines))) ≡ listed id (ids (drop (suc i) (take n lines)))
+      passed = unfold listed in rw (passing i n lines blank g h, ne-eqb (getD lines i blank .terms .id) id e)
 
   pub unmet-met : i < n → getD lines i blank .terms .id ≡ id → false ≡ id-good (take n lines) id
   unfolding id-good
   unmet-met g e = rw (sym u ∙ met) (never (ltb 0 id))
     where
-      met : known id (drop i (take n lines)) ≡ true
-      met = unfold known in rw (passing i n lines blank g h, eq-eqb (getD lines i blank .terms .id) id e)
+      met : listed id (ids (drop i (take n lines))) ≡ true
+      met = unfold listed in rw (passing i n lines blank g h, eq-eqb (getD lines i blank .terms .id) id e)
 
       never : (t : Bool) → false ≡ (t && false)
       never true = refl
@@ -38,5 +38,5 @@ module _ (n : ℕ) (lines : List Line) (id i : ℕ) (u : Unmet n lines id i) (h 
   unfolding id-good
   unmet-all e g = rw (sym u ∙ ended, lt-ltb 0 id g)
     where
-      ended : known id (drop i (take n lines)) ≡ false
-      ended = unfold known in rw (e, all-passed n lines h)
+      ended : listed id (ids (drop i (take n lines))) ≡ false
+      ended = unfold listed in rw (e, all-passed n lines h)

@@ -13,8 +13,8 @@ use Rattle.method.specs.words.Tables.{opened, refused, opening-state}
 use Rattle.method.specs.computed.Opening.{open-line}
 use Rattle.method.specs.computed.Table.{open-lines}
 use Rattle.table.specs.Names.{Header, Key, Contract, Line, LineAnswer, TableAnswer, TableReason}
-use Rattle.table.specs.declared.Opened.{Opened}
-use Rattle.table.specs.Opened.{opened-as}
+use Rattle.table.specs.declared.TableReply.{TableReply}
+use Rattle.table.specs.Reply.{opened-as}
 
 -- the contracts from the i-th on, of `count`
 abbrev from-line : List ℕ → ℕ → ℕ → ℕ → List Contract
@@ -83,7 +83,11 @@ module _ (b : List ℕ) (h : Header) (keys : List Key) (start count : ℕ) (line
       onward : open-lines h keys (suc i) (o .done) (from-line b start count i) ≡ open-lines h keys (suc (suc i)) (o .done ++ (l ∷ [])) (from-line b start count (suc i))
       onward = unfold open-lines in rw (contracts-next b start count i g, answer-is ∙ e)
 
--- every line is opened
+-- every line is opened: what is handed back then
+abbrev handed : Header → List Line → ℕ → TableReply
+handed h lines count =
+    record { answer = TableAnswer.Opened; lines = lines; count = count; end = h .end; hold = h .hold; most = h .most; near = h .near }
+
 module _ (b : List ℕ) (h : Header) (keys : List Key) (start count : ℕ) (lines : List Line) (i : ℕ) (o : Opening-lines b h keys start count lines i) (e : i ≡ count) where
   none-left : from-line b start count i ≡ []
   unfolding contracts-at
@@ -93,22 +97,9 @@ module _ (b : List ℕ) (h : Header) (keys : List Key) (start count : ℕ) (line
   unfolding open-lines
   ended = rw none-left
 
-  handed-back : _≡_ {A = Opened}
-      (record { answer = TableAnswer.Opened; lines = lines; count = count; end = h .end; hold = h .hold; most = h .most; near = h .near })
-      (opened-as (opened (opening-state h (o .done))))
+  handed-back : handed h lines count ≡ opened-as (opened (opening-state h (o .done)))
   unfolding opened-as opening-state
-  handed-back =
-      λ j. record {
-        answer = TableAnswer.Opened;
-        lines = o .written j;
-        count = (sym e ∙ sym (o .size)) j;
-        end = h .end;
-        hold = h .hold;
-        most = h .most;
-        near = h .near;
-      }
+  handed-back = λ j. handed h (o .written j) ((sym e ∙ sym (o .size)) j)
 
-  pub lines-all : _≡_ {A = Opened}
-      (record { answer = TableAnswer.Opened; lines = lines; count = count; end = h .end; hold = h .hold; most = h .most; near = h .near })
-      (opened-as (open-lines h keys 1 [] (contracts-at b start count)))
+  pub lines-all : handed h lines count ≡ opened-as (open-lines h keys 1 [] (contracts-at b start count))
   lines-all = handed-back ∙ ap opened-as (sym ended ∙ o .rest)

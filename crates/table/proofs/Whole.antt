@@ -14,7 +14,7 @@ use Rattle.method.specs.words.Tables.{refused}
 use Rattle.method.specs.computed.Table.{header-good, laid-out, key-good, bad-key, open-lines, if-keys-good, open-records, opening}
 use Rattle.method.proofs.Decided.{laid-in}
 use Rattle.method.proofs.Table.{header-in, keys-in}
-use Rattle.table_records.specs.Keys.{no-key}
+use Rattle.method.specs.computed.Types.{no-key}
 use Rattle.table_records.proofs.Reading.{keys-length}
 use Rattle.table_ranges.specs.BadKey.{line-or-zero}
 use Rattle.table.specs.Names.{Header, Key, TableReason}

@@ -1,3 +1,3 @@
 pub mod Names
-pub mod Opened
+pub mod Reply
 pub mod Asks

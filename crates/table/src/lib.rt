@@ -9,7 +9,7 @@ ghost use Rattle.method.specs.words.Ranges.{most-contracts};
 ghost use Rattle.method.specs.words.Tables.{refused};
 ghost use Rattle.method.specs.computed.Opening.{id-good, open-line};
 ghost use Rattle.method.specs.computed.Table.{open-lines, opening};
-ghost use Rattle.table.specs.Opened.{opened-as};
+ghost use Rattle.table.specs.Reply.{opened-as};
 ghost use Rattle.table.specs.Asks.{Ready, Lined};
 use method::Book;
 use method::Contract;
@@ -36,7 +36,7 @@ const BLANK: Line = Line {
     terms: Terms {
         id: 0,
         flags: 0,
-        below: false,
+        negative: false,
         halfmove: Steps(0),
         factors: Factors {
             up: Billionths(0),
@@ -110,18 +110,14 @@ fn open_line(
         return LineAnswer::Refused(TableReason::Exponent);
     }
     let width = c.width;
-    table_line::opening::opened_with(
-        width,
-        table_line::opening::terms(shift, y, c),
-        table_line::opening::market(c),
-    )
+    table_line::opened_with(width, table_line::terms(shift, y, c), table_line::market(c))
 }
 
 // ---- the whole table
 
 // The answer, and beside it, where a session is opened, its lines and the header's numbers; where it is refused, no lines, and every
 // number 0. No table that opens may say hold seconds 0, so that those numbers are no session's.
-pub struct Opened {
+pub struct TableReply {
     pub answer: TableAnswer,
     pub lines: [Line; 32],
     pub count: usize,
@@ -131,10 +127,10 @@ pub struct Opened {
     pub near: Millionths,
 }
 
-fn refused(why: TableReason, line: u32) -> Opened
+fn refused(why: TableReason, line: u32) -> TableReply
     ensures { λ r. ⌜ r ≡ opened-as (refused why line) ⌝ }
 {
-    Opened {
+    TableReply {
         answer: TableAnswer::Refused(why, line),
         lines: [BLANK; 32],
         count: 0,
@@ -146,7 +142,7 @@ fn refused(why: TableReason, line: u32) -> Opened
 }
 
 // Each contract line in turn.
-fn open_lines(bytes: &[u8], h: Header, keys: [Key; 16]) -> Opened
+fn open_lines(bytes: &[u8], h: Header, keys: [Key; 16]) -> TableReply
     requires { ⌜ Lined h keys (length (now bytes)) ⌝ }
     ensures { λ r. ⌜ r ≡ opened-as (open-lines h (take (h .keys) keys) 1 [] (contracts-at (now (bytes .entry)) (contracts-start h) (h .contracts))) ⌝ }
 {
@@ -171,7 +167,7 @@ fn open_lines(bytes: &[u8], h: Header, keys: [Key; 16]) -> Opened
     let end = h.end;
     let hold = h.hold;
     let near = h.near;
-    Opened {
+    TableReply {
         answer: TableAnswer::Opened,
         lines: lines,
         count: count,
@@ -192,7 +188,7 @@ pub fn ends_at(bytes: &[u8]) -> usize
 }
 
 // Opens a morning table. Any bytes of any length get an answer, and nothing is worked out from a count before it is checked.
-pub fn open(bytes: &[u8]) -> Opened
+pub fn open(bytes: &[u8]) -> TableReply
     ensures { λ r. ⌜ r ≡ opened-as (opening (now (bytes .entry))) ⌝ }
 {
     let size = bytes.len();

@@ -10,7 +10,7 @@ use Rattle.numbers.specs.Arrays.{padded}
 use Rattle.numbers.proofs.Arrays.{padded-set}
 use Rattle.method.specs.words.Layout.{key-at, keys-at}
 use Rattle.table_records.specs.Names.{Key, Contract}
-use Rattle.table_records.specs.Keys.{no-key}
+use Rattle.method.specs.computed.Types.{no-key}
 
 -- ---- the keys are read one after another
 pub keys-length : (b : List ℕ) (at n : ℕ) → length (keys-at b at n) ≡ n

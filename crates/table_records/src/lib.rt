@@ -1,4 +1,4 @@
-// The records of a morning table: header, keys and contracts out of its bytes. What they must keep to is tested in `ranges`.
+// The records of a morning table: header, keys and contracts out of its bytes. What they must keep to is tested in `table_ranges`.
 
 ghost use mathlib.Core.Path.{_≡_};
 ghost use Prim.Native.Nat.{_+_, _*_, _≤_};
@@ -6,19 +6,13 @@ ghost use lib.ListN.{length};
 ghost use Rattle.numbers.specs.Arrays.{padded};
 ghost use Rattle.method.specs.words.Layout.{header-of, key-at, contract-at, keys-at};
 ghost use Rattle.method.specs.words.Ranges.{most-keys};
-ghost use Rattle.table_records.specs.Keys.{no-key};
+ghost use Rattle.method.specs.computed.Types.{no-key};
 use method::Contract;
 use method::Header;
 use method::Key;
 use numbers::Millionths;
 use numbers::Seconds;
 use numbers::Steps;
-
-// What stands past the last key.
-const NO_KEY: Key = Key {
-    days: 0,
-    rate: Millionths(0),
-};
 
 // ---- the three kinds of record
 
@@ -74,7 +68,7 @@ pub fn keys(bytes: &[u8], n: usize) -> [Key; 16]
     requires { ⌜ (n ≤ most-keys) × (40 + 8 * n ≤ length (now bytes)) ⌝ }
     ensures { λ r. ⌜ r ≡ padded 16 no-key (keys-at (now (bytes .entry)) 40 n) ⌝ }
 {
-    let mut keys = [NO_KEY; 16];
+    let mut keys = [method::NO_KEY; 16];
     let mut i: usize = 0;
     while i < n {
         keys[i] = key(bytes, 40 + 8 * i);

@@ -22,8 +22,8 @@ place-of id [] = 0
 place-of id (j ∷ ids) = cond (eqb j id) 0 (suc (place-of id ids))
 
 -- The first test that fails says the refusal, in the order of METHOD 20: 12, 10, 11 and, for a quote only, 13, 14.
-unfoldable pub timely : Seconds → Seconds → Seconds → Verdict → Verdict
-timely end clock t onward =
+unfoldable pub if-in-session : Seconds → Seconds → Seconds → Verdict → Verdict
+if-in-session end clock t onward =
     demand (leb (t .0) (end .0)) (Verdict.Refused EventReason.AfterEnd)
     (demand (leb (clock .0) (t .0)) (Verdict.Refused EventReason.BeforeClock) onward)
 
@@ -38,5 +38,5 @@ quote-screened ids q =
 
 unfoldable pub screened : List ℕ → Seconds → Seconds → Event → Verdict
 screened ids end clock Damaged = Verdict.Refused EventReason.Malformed
-screened ids end clock (Tick t) = timely end clock t (Verdict.Taken (record { time = t; change = Change.Nothing }))
-screened ids end clock (Quoted q) = timely end clock (q .time) (quote-screened ids q)
+screened ids end clock (Tick t) = if-in-session end clock t (Verdict.Taken (record { time = t; change = Change.Nothing }))
+screened ids end clock (Quoted q) = if-in-session end clock (q .time) (quote-screened ids q)

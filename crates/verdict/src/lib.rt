@@ -3,7 +3,7 @@
 ghost use mathlib.Core.Path.{_≡_};
 ghost use Rattle.method.specs.computed.Event.{not-crossed};
 ghost use Rattle.method.specs.computed.Sound.{Distinct};
-ghost use Rattle.verdict.specs.Screened.{slot-of, place-of, timely, quote-screened, screened};
+ghost use Rattle.verdict.specs.Screened.{slot-of, place-of, if-in-session, quote-screened, screened};
 use method::Event;
 use method::EventReason;
 use method::Price;
@@ -83,8 +83,8 @@ fn place_of(ids: &[u32], guess: u8, id: u32) -> usize
 }
 
 // Refusals 10 and 11; what comes after them is handed over.
-fn timely(end: Seconds, clock: Seconds, t: Seconds, onward: Verdict) -> Verdict
-    ensures { λ r. ⌜ r ≡ timely end clock t onward ⌝ }
+fn if_in_session(end: Seconds, clock: Seconds, t: Seconds, onward: Verdict) -> Verdict
+    ensures { λ r. ⌜ r ≡ if-in-session end clock t onward ⌝ }
 {
     if end.0 < t.0 {
         return Verdict::Refused(EventReason::AfterEnd);
@@ -127,7 +127,7 @@ pub fn screen(ids: &[u32], guess: u8, end: Seconds, clock: Seconds, e: Event) ->
 {
     match e {
         Event::Damaged => Verdict::Refused(EventReason::Malformed),
-        Event::Tick(t) => timely(
+        Event::Tick(t) => if_in_session(
             end,
             clock,
             t,
@@ -138,7 +138,7 @@ pub fn screen(ids: &[u32], guess: u8, end: Seconds, clock: Seconds, e: Event) ->
         ),
         Event::Quoted(q) => {
             let time = q.time;
-            timely(end, clock, time, quote_screened(ids, guess, q))
+            if_in_session(end, clock, time, quote_screened(ids, guess, q))
         }
     }
 }

@@ -2,7 +2,7 @@
 use borrow.Author.Needs.{needs}
 use mathlib.Core.Path.{ap, _∙_}
 use denote.Ref.{now}
-use Rattle.counting.specs.Answered.{number-in}
+use Rattle.counting.specs.Counted.{number-in}
 use Rattle.counting.proofs.Answering.{closing-count, closing-written}
 use Rattle.counting.proofs.closed.Statement.{statement}
 use Rattle.counting.proofs.closed.Tie as tie

@@ -4,7 +4,7 @@ use borrow.Author.Tests.{lt-ltb, le-ltb, le-leb, lt-leb}
 use mathlib.Core.Path.{sym}
 use native.Mathlib.Omega.{arith}
 use Rattle.method.specs.computed.Search.{in-time}
-use Rattle.due.proofs.Finding.{none-left}
+use Rattle.method.proofs.FirstFound.{none-left}
 use Rattle.due.proofs.in_time.Statement.{statement}
 use Rattle.due.proofs.in_time.Tie as tie
 

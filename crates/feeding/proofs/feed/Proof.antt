@@ -6,7 +6,7 @@ use mathlib.Core.Logic.{⊎-elim}
 use mathlib.Core.List.{List}
 use Prim.Native.Nat.{ℕ, _≤_, _<_, _+_, _-_}
 use native.Mathlib.Omega.{arith}
-use lib.ListN.{length, set, take, drop}
+use lib.ListN.{length, take, drop}
 use lib.Seq.{length-take-le}
 use Rattle.method.specs.computed.Event.{read}
 use Rattle.method.specs.computed.Sound.{Distinct}
@@ -17,13 +17,12 @@ use Rattle.verdict.proofs.Finding.{slot-below}
 use Rattle.due.specs.Quiet.{until}
 use Rattle.feeding.specs.Names.{Line}
 use Rattle.corridor.specs.declared.Session.{Session}
-use Rattle.corridor.specs.View.{view}
-use Rattle.feeding.specs.Feeding.{room}
+use Rattle.corridor.specs.View.{view, with-line}
+use Rattle.feeding.specs.Feeding.{feed-needs}
 use Rattle.corridor.proofs.Views.{view-length}
 use Rattle.feeding.proofs.Quiet.{Quiet, quiet-first}
 use Rattle.corridor.proofs.Named.{named-below}
 use Rattle.corridor.proofs.Saying.{Changes, Says, Takes, session-says}
-use Rattle.corridor.specs.Applied.{moved-on}
 use Rattle.corridor.proofs.Events.{quote-asks, quote-in}
 use Rattle.events.proofs.Cutting.{Cut, cut-is}
 use Rattle.feeding.proofs.Feeding.{ahead-long, all-fed, all-into, nothing-fed, nothing-into}
@@ -103,13 +102,13 @@ abbrev placed : Quoted → PlacedQuote
 placed c = c .before .change .given .0 .0
 
 -- ---- no room
-room-requires : tie.Need-room-requires Inv-loop μ-loop
-room-requires c κs = omega arith
+needed-requires : tie.Need-needed-requires Inv-loop μ-loop
+needed-requires c κs = omega arith
 
 returns : tie.Need-returns Inv-loop μ-loop
 returns c =
     let s = c .before .before .before in
-    let e = c .before .room .ensures in (
+    let e = c .before .needed .ensures in (
       nothing-fed (s .args .t1) (now (s .args .out)) (now (s .args .events)) e (c .if1 .taken),
       nothing-into (s .args .t1) (now (s .args .out)) (now (s .args .events)) e (c .if1 .taken),
     )
@@ -127,7 +126,7 @@ loop-holds c =
     let asked = c .before .before .before in
     let got = c .before .before .ids in
     turn-start (s .args .t1) (now (s .args .events)) (now (s .args .out)) (s .args .t1 .count) (got .result) (s .pre)
-    (omega (arith, asked .before .room .ensures, asked .if1 .left)) (got .ensures .1)
+    (omega (arith, asked .before .needed .ensures, asked .if1 .left)) (got .ensures .1)
 
 -- ---- the event at hand is cut out and read
 cut-requires : tie.Need-cut-requires Inv-loop μ-loop
@@ -292,9 +291,6 @@ until-requires c κs =
 
 -- ---- an event that is taken: the next turn
 -- a session with one line set
-abbrev quoted-in : Session → ℕ → Line → Session
-quoted-in z p m = moved-on z (set (z .lines) p m) (z .clock)
-
 loop-less-2 : tie.Need-loop-less-2 Inv-loop μ-loop
 loop-less-2 c = let k = cut (cut-served (c .before)) in omega (arith, k .on, k .inside)
 
@@ -306,7 +302,7 @@ loop-again-2 c =
     let then =
     turn-taken (s .args .t1) (now (s .args .events)) (now (s .args .out)) _ _ (turning k .loop .inv) (k .before .loop-test .taken) (cut k) _
     (takes (timed r)) (caught r) in
-    let put = quoted-in (r .if3 .s) in
+    let put = with-line (r .if3 .s) in
     let later = until (r .if3 .quiet) (r .if3 .s .hold) in
     ⊎-elim (λ w. then Change.Nothing (w .1 .given .1) (c .match2 .s) (w .2) (c .match2 .quiet) (w .3))
     (λ w.
@@ -327,7 +323,7 @@ returns-2 c =
     let h = at .inv .ahead in
     let asked = c .before .before .before .before .before in
     let last : at .from ≡ length (now (s .args .events)) = omega (arith, h .inside) in
-    let enough : room (length (now (s .args .events))) ≤ length (now (s .args .out)) = omega (arith, asked .before .room .ensures, asked .if1 .left) in (
+    let enough : feed-needs (length (now (s .args .events))) ≤ length (now (s .args .out)) = omega (arith, asked .before .needed .ensures, asked .if1 .left) in (
       all-fed (s .args .t1) (now (s .args .events)) (now (s .args .out)) h last enough,
       all-into (s .args .t1) (now (s .args .events)) (now (s .args .out)) h last enough,
     )
@@ -338,7 +334,7 @@ feed-spec =
     (tie.spec
     Inv-loop
     μ-loop
-    room-requires
+    needed-requires
     returns
     ids-requires
     guessed-requires

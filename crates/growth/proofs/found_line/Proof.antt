@@ -5,7 +5,8 @@ use native.Mathlib.Omega.{arith}
 use lib.ListN.{length, take}
 use lib.Seq.{getD-take, length-take-le}
 use Rattle.numbers.proofs.Arrays.{full}
-use Rattle.growth.proofs.Search.{no-key, Passed, passed-none, passed-turn, passed-found, passed-all}
+use Rattle.method.specs.computed.Types.{no-key}
+use Rattle.growth.proofs.Search.{Passed, passed-none, passed-turn, passed-found, passed-all}
 use Rattle.growth.proofs.found_line.Statement.{statement}
 use Rattle.growth.proofs.found_line.Tie as tie
 

@@ -1,6 +1,7 @@
 -- `host_intact::beside` meets its contract. Assumes nothing.
 use borrow.Author.Needs.{needs}
 use mathlib.Core.Path.{sym}
+use Rattle.method.specs.computed.Shift.{most-left}
 use Rattle.host_memory.specs.Memory.{session-in}
 use Rattle.host_intact.proofs.beside.Statement.{statement}
 use Rattle.host_intact.proofs.beside.Tie as tie
@@ -45,7 +46,7 @@ in-range-requires : tie.Need-in-range-requires
 in-range-requires c κs = search needs
 
 returns : tie.Need-returns
-unfolding session-in
+unfolding session-in most-left
 returns c =
     rw (sym (c .before .before .before .before .before .word .ensures), sym (c .before .before .before .before .word2 .ensures), sym (c .before .before .before .word3 .ensures), sym (c .before .before .word4 .ensures), sym (c .before .word5 .ensures)) (c .in-range .ensures)
 

@@ -11,8 +11,10 @@ use Rattle.method.specs.words.Types.{blank, millionths}
 use Rattle.numbers.specs.declared.Millionths.{Millionths}
 use Rattle.numbers.proofs.Deciding.{kept, broken}
 use Rattle.method.specs.words.Ranges.{most-shifts, largest-near-share}
+use Rattle.method.specs.computed.Shift.{most-left}
 use Rattle.host_line.proofs.Whole.{Rows}
 use Rattle.corridor.specs.declared.Session.{Session}
+use Rattle.corridor.specs.View.{view}
 use Rattle.host_memory.specs.Memory.{session-in}
 use Rattle.host_memory.proofs.Places.{count-is, left-is, near-is, line-at}
 use Rattle.host_intact.proofs.Whole.{Fit, carried, full-in}
@@ -21,7 +23,7 @@ use Rattle.host_intact.proofs.lines.Tie as tie
 
 abbrev Inv-loop : tie.InvT-loop
 Inv-loop session n left near i₀ i =
-    (i ≤ session-in session .count) × Rows (session-in session .near) (session-in session .left) (session-in session .lines) i
+    (i ≤ session-in session .count) × Rows (session-in session .near) (session-in session .left) (most-left (view (session-in session))) (session-in session .lines) i
 
 abbrev μ-loop : tie.MeasureT-loop
 μ-loop session n left near i₀ i = session-in session .count - i
@@ -42,6 +44,10 @@ module _ (c : tie.At-loop Inv-loop μ-loop) where
 
   left-read : given .left ≡ c .before .before .word .result
   left-read = left-is rows ∙ sym (c .before .before .word .ensures)
+
+  most-read : most-left (view given) ≡ c .before .before .word .result
+  unfolding most-left
+  most-read = left-read
 
   near-read : given .near ≡ millionths (c .before .word2 .result)
   near-read = near-is rows ∙ ap millionths (sym (c .before .word2 .ensures))
@@ -94,12 +100,12 @@ line-requires-2 : tie.Need-line-requires-2 Inv-loop μ-loop
 line-requires-2 c κs =
     let a : tie.At-loop Inv-loop μ-loop = c .before .before .before in
     let b = start a .pre in
-    (subst (λ (k : ℕ). k ≤ most-shifts) (left-read a) (b .left), subst (λ (m : Millionths). m .0 ≤ largest-near-share) (near-read a) (b .near .most))
+    (subst (λ (k : ℕ). k ≤ most-shifts) (most-read a) (b .left), subst (λ (m : Millionths). m .0 ≤ largest-near-share) (near-read a) (b .near .most))
 
 returns : tie.Need-returns Inv-loop μ-loop
 returns c = λ q.
     broken (c .before .line2 .result) (c .before .line2 .ensures) (c .if1 .taken)
-    (carried (near-read (at (c .before))) (left-read (at (c .before))) (line-read (c .before)) (q (at (c .before) .loop .i) (below (c .before))))
+    (carried (near-read (at (c .before))) (left-read (at (c .before))) (most-read (at (c .before))) (line-read (c .before)) (q (at (c .before) .loop .i) (below (c .before))))
 
 add-i : tie.Need-add-i Inv-loop μ-loop
 add-i c = omega (arith, below (c .before), start (at (c .before)) .pre .few)
@@ -111,11 +117,11 @@ loop-again : tie.Need-loop-again Inv-loop μ-loop
 loop-again c =
     let s = given (at (c .before)) in
     let i = at (c .before) .loop .i in
-    let here : Fit (s .near) (s .left) (getD (s .lines) i blank) =
-    carried (sym (near-read (at (c .before)))) (sym (left-read (at (c .before)))) (sym (line-read (c .before)))
+    let here : Fit (s .near) (s .left) (most-left (view s)) (getD (s .lines) i blank) =
+    carried (sym (near-read (at (c .before)))) (sym (left-read (at (c .before)))) (sym (most-read (at (c .before)))) (sym (line-read (c .before)))
     (kept (c .before .line2 .result) (c .before .line2 .ensures) (c .if1 .left)) in (
       omega (arith, below (c .before)),
-      below-more (λ (k : ℕ). Fit (s .near) (s .left) (getD (s .lines) k blank)) i (at (c .before) .loop .inv .1) here,
+      below-more (λ (k : ℕ). Fit (s .near) (s .left) (most-left (view s)) (getD (s .lines) k blank)) i (at (c .before) .loop .inv .1) here,
     )
 
 returns-2 : tie.Need-returns-2 Inv-loop μ-loop

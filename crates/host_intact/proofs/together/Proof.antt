@@ -8,9 +8,8 @@ use denote.Ref.{now}
 use lib.ListN.{length, getD, set, take}
 use lib.Seq.{length-take-le}
 use Rattle.numbers.proofs.Deciding.{kept, broken}
-use Rattle.method.specs.words.Types.{blank, seconds}
-use Rattle.method.specs.computed.Opening.{ids}
-use Rattle.method.specs.computed.Search.{passed, earliest, in-time}
+use Rattle.method.specs.words.Types.{blank, seconds, session-ids}
+use Rattle.method.specs.computed.Search.{passed, earliest, in-time, next-due}
 use Rattle.method.specs.computed.Rooms.{HoldsIn}
 use Rattle.method.specs.computed.Sound.{Distinct}
 use Rattle.method.specs.declared.Found.the-variants.{Nothing}
@@ -21,7 +20,6 @@ use Rattle.corridor.proofs.Due.{Passed, passed-turn, passed-all}
 use Rattle.corridor.proofs.Gathered.{Gathered, gathered-none, gathered-turn, gathered-all}
 use Rattle.host_memory.specs.Memory.{head-of, session-in}
 use Rattle.host_memory.proofs.Places.{count-is, clock-is, end-is, hold-is, left-is, id-at, holds-at}
-use Rattle.host_intact.specs.Tests.{due-by}
 use Rattle.host_intact.proofs.Whole.{full-in}
 use Rattle.host_intact.proofs.together.Statement.{statement}
 use Rattle.host_intact.proofs.together.Tie as tie
@@ -72,7 +70,7 @@ module _ (c : tie.After-loop Inv-loop μ-loop) where
   all : c .before .loop .i ≡ given (c .before) .count
   all = omega (arith, count-is (rows (c .before)), c .loop-test .left, c .before .loop .inv .0)
 
-  named : take (getD (head-of (rows (c .before))) 0 0) (c .before .loop .ids) ≡ ids (view (given (c .before)) .lines)
+  named : take (getD (head-of (rows (c .before))) 0 0) (c .before .loop .ids) ≡ session-ids (view (given (c .before)))
   named =
       ap (λ (n : ℕ). take n (c .before .loop .ids)) (count-is (rows (c .before)))
       ∙ gathered-all (given (c .before) .lines) (given (c .before) .count) (c .before .loop .i) (c .before .loop .ids) all (c .before .loop .inv .2)
@@ -83,7 +81,10 @@ module _ (c : tie.After-loop Inv-loop μ-loop) where
       (omega (arith, few (c .before), full (c .before))) all (c .before .loop .inv .1)
 
 -- what is found due by the clock
-found : (c : tie.After-in-time Inv-loop μ-loop) → due-by (view (given (c .before .before .before .before .before .before))) ≡ c .in-time .result
+found : (c : tie.After-in-time Inv-loop μ-loop)
+    → let s : Session = given (c .before .before .before .before .before .before) in
+    next-due (s .clock) (view s) ≡ c .in-time .result
+unfolding next-due
 found c =
     let a : tie.At-loop Inv-loop μ-loop = c .before .before .before .before .before .before in
     let clock = clock-is (rows a) ∙ ap seconds (sym (a .before .before .before .word .ensures)) in

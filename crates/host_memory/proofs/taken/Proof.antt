@@ -7,8 +7,8 @@ use native.Mathlib.Omega.{arith}
 use denote.Ref.{now}
 use lib.ListN.{length, take, length-set}
 use Rattle.host_row.specs.Packed.{at, line-in}
-use Rattle.host_memory.specs.Memory.{no-row, head-of, session-in}
-use Rattle.host_memory.proofs.AllRows.{session-of, gather-turn, all-lines}
+use Rattle.host_memory.specs.Memory.{no-row, head-of, session-of, session-in}
+use Rattle.host_memory.proofs.AllRows.{gather-turn, all-lines}
 use Rattle.host_memory.proofs.taken.Statement.{statement}
 use Rattle.host_memory.proofs.taken.Tie as tie
 

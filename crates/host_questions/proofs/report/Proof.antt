@@ -3,13 +3,12 @@ use borrow.Author.Needs.{needs}
 use mathlib.Core.Path.{_≡_, sym, _∙_, ap}
 use denote.Ref.{now}
 use Rattle.method.specs.told.Report.{report}
-use Rattle.method.specs.computed.Rooms.{Room}
 use Rattle.corridor.specs.View.{view}
 use Rattle.questions.specs.declared.Sought.{Sought}
-use Rattle.host_report.specs.Told.{report-rows}
+use Rattle.host_report.specs.ReportRows.{report-rows}
 use Rattle.questions.specs.Asked.{sought}
 use Rattle.host_memory.specs.Memory.{session-in}
-use Rattle.questions.proofs.Asking.{sought-every, report-by}
+use Rattle.questions.proofs.Asking.{sought-room, report-by}
 use Rattle.host_questions.proofs.Answers.{report-none, report-some}
 use Rattle.host_questions.proofs.report.Statement.{statement}
 use Rattle.host_questions.proofs.report.Tie as tie
@@ -34,7 +33,7 @@ module _ (c : tie.After-known-told) where
 reported-requires : tie.Need-reported-requires
 reported-requires c κs =
     let s = session-in (now (start c .args .session)) in
-    (start c .pre .sane .hold .most, sought-every (Room (s .left)) (start c .args .id) (view s) (c .before .l .given .0 .0) (start c .pre .sane .rooms) (line-is c))
+    (start c .pre .sane .hold .most, sought-room (start c .args .id) (view s) (c .before .l .given .0 .0) (start c .pre .sane) (line-is c))
 
 report-rows-requires : tie.Need-report-rows-requires
 report-rows-requires c κs = search needs

@@ -4,7 +4,7 @@ use mathlib.Core.Path.{_∙_}
 use mathlib.Core.List.{List, [], _∷_}
 use lib.IntN.{ℤ}
 use Rattle.host_report.specs.declared.PriceNumbers.{PriceNumbers}
-use Rattle.host_report.specs.Told.{book-row}
+use Rattle.host_report.specs.ReportRows.{book-row}
 use Rattle.host_report.proofs.book_row.Statement.{statement}
 use Rattle.host_report.proofs.book_row.Tie as tie
 

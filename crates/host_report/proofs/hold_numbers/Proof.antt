@@ -3,7 +3,7 @@ use borrow.Author.Needs.{needs}
 use mathlib.Core.Path.{sym, ap, _∙_}
 use lib.IntN.{ℤ, pos}
 use Rattle.host_report.specs.declared.HoldNumbers.{HoldNumbers}
-use Rattle.host_report.specs.Told.{hold-told}
+use Rattle.host_report.specs.ReportRows.{hold-told}
 use Rattle.host_report.proofs.hold_numbers.Statement.{statement}
 use Rattle.host_report.proofs.hold_numbers.Tie as tie
 

@@ -4,7 +4,7 @@ use mathlib.Core.Path.{_∙_}
 use mathlib.Core.List.{List, [], _∷_}
 use lib.IntN.{ℤ}
 use Rattle.host_report.specs.declared.HoldNumbers.{HoldNumbers}
-use Rattle.host_report.specs.Told.{hold-row}
+use Rattle.host_report.specs.ReportRows.{hold-row}
 use Rattle.host_report.proofs.hold_row.Statement.{statement}
 use Rattle.host_report.proofs.hold_row.Tie as tie
 

@@ -4,7 +4,7 @@ use mathlib.Core.Path.{ap, _∙_}
 use mathlib.Core.List.{List, [], _∷_}
 use lib.IntN.{ℤ}
 use Rattle.host_report.specs.Names.{Steps, Limits, BothBounds}
-use Rattle.host_report.specs.Told.{limit-row}
+use Rattle.host_report.specs.ReportRows.{limit-row}
 use Rattle.host_report.proofs.limit_row.Statement.{statement}
 use Rattle.host_report.proofs.limit_row.Tie as tie
 

@@ -1,6 +1,6 @@
 -- `host_report::market_row` meets its contract. Assumes nothing.
 use borrow.Author.Needs.{needs}
-use Rattle.host_report.specs.Told.{market-row}
+use Rattle.host_report.specs.ReportRows.{market-row}
 use Rattle.host_report.proofs.market_row.Statement.{statement}
 use Rattle.host_report.proofs.market_row.Tie as tie
 

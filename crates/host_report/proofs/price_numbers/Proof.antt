@@ -1,7 +1,7 @@
 -- `host_report::price_numbers` meets its contract. Assumes nothing.
 use borrow.Author.Needs.{needs}
 use mathlib.Core.Path.{sym, ap, _∙_}
-use Rattle.host_report.specs.Told.{price-told}
+use Rattle.host_report.specs.ReportRows.{price-told}
 use Rattle.host_report.proofs.price_numbers.Statement.{statement}
 use Rattle.host_report.proofs.price_numbers.Tie as tie
 

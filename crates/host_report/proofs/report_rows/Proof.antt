@@ -2,7 +2,7 @@
 use borrow.Author.Needs.{needs}
 use mathlib.Core.Path.{_∙_}
 use mathlib.Core.List.{[], _∷_}
-use Rattle.host_report.specs.Told.{book-row, report-rows}
+use Rattle.host_report.specs.ReportRows.{book-row, report-rows}
 use Rattle.host_report.proofs.report_rows.Statement.{statement}
 use Rattle.host_report.proofs.report_rows.Tie as tie
 

@@ -6,7 +6,7 @@ use Rattle.rows.specs.Buffer.{written}
 use Rattle.corridor.specs.Engine.{reply-to}
 use Rattle.host_session.specs.Names.{Session}
 use Rattle.host_memory.specs.Memory.{session-in}
-use Rattle.host_session.specs.Told.{reply-in, shift-rows}
+use Rattle.host_session.specs.Answers.{reply-in, shift-rows}
 use Prim.Native.Nat.{_≤_}
 use Rattle.corridor.specs.declared.Reply.{Reply}
 use borrow.Author.Needs.{needs}

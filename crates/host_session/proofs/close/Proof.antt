@@ -6,7 +6,7 @@ use lib.ListN.{length}
 use borrow.Author.Needs.{needs}
 use mathlib.Core.Path.{ap, subst, sym, _∙_}
 use Rattle.corridor.specs.View.{Valid}
-use Rattle.counting.specs.Answered.{number-in}
+use Rattle.counting.specs.Counted.{number-in}
 use Rattle.host_session.proofs.close.Statement.{statement}
 use Rattle.host_session.proofs.close.Tie as tie
 

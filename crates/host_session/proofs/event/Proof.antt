@@ -6,7 +6,7 @@ use mathlib.Core.Logic.{⊎-elim}
 use Prim.Native.Nat.{ℕ}
 use denote.Ref.{now}
 use Rattle.method.specs.computed.Event.{read}
-use Rattle.method.specs.computed.Search.{serve}
+use Rattle.method.specs.computed.Search.{served-by}
 use Rattle.rows.specs.Buffer.{written}
 use Rattle.verdict.specs.declared.Change.{Change}
 use Rattle.verdict.specs.declared.Taken.{Taken}
@@ -16,7 +16,7 @@ use Rattle.corridor.proofs.Saying.{Changes, Says, Takes, session-says}
 use Rattle.corridor.proofs.Events.{refused-is, handed}
 use Rattle.host_session.specs.Names.{Session}
 use Rattle.host_memory.specs.Memory.{session-in}
-use Rattle.host_session.specs.Told.{reply-in, shift-rows}
+use Rattle.host_session.specs.Answers.{reply-in, shift-rows}
 use Rattle.host_session.proofs.Replies.{event-told, event-taken}
 use Rattle.host_session.proofs.Turns.{nothing-due, unserved, quote-goes, reply-quiet}
 use Rattle.host_session.proofs.event.Statement.{statement}
@@ -51,7 +51,7 @@ said c = session-says (given c) refl (c .before .before .read .ensures) (c .look
 takes : (c : tie.Else1) → Takes (view (given (walked c))) (read (bytes (walked c))) (taken c)
 takes c = subst (Says (view (given (walked c))) (read (bytes (walked c)))) (c .before .before .before .before .before .said2 .given .1) (said (walked c))
 
-idle : (c : tie.Else1) → serve (given (walked c) .left) (taken c .time) (view (given (walked c))) ≡ []
+idle : (c : tie.Else1) → served-by (taken c .time) (view (given (walked c))) ≡ []
 idle c = nothing-due (given (walked c)) (taken c .time) (walked c .looked .result .quiet) (start (walked c) .pre) (walked c .looked .ensures .1) (c .if1 .left)
 
 read-requires : tie.Need-read-requires

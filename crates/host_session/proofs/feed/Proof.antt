@@ -7,7 +7,7 @@ use Rattle.feeding.specs.declared.Fed.{Fed}
 use Rattle.corridor.specs.View.{Valid}
 use Rattle.feeding.specs.Feeding.{fed, fed-into}
 use Rattle.host_session.specs.Names.{Session}
-use Rattle.counting.specs.Answered.{number-in}
+use Rattle.counting.specs.Counted.{number-in}
 use Rattle.host_session.proofs.feed.Statement.{statement}
 use Rattle.host_session.proofs.feed.Tie as tie
 

@@ -7,9 +7,8 @@ use native.Mathlib.Omega.{arith}
 use denote.Ref.{now}
 use lib.ListN.{set, take}
 use lib.Seq.{length-take-le}
-use Rattle.method.specs.words.Types.{seconds}
+use Rattle.method.specs.words.Types.{seconds, session-ids}
 use Rattle.method.specs.words.Ranges.{longest-hold}
-use Rattle.method.specs.computed.Opening.{ids}
 use Rattle.method.specs.computed.Rooms.{HoldsIn}
 use Rattle.method.specs.computed.Sound.{Distinct}
 use Rattle.verdict.specs.Screened.{screened}
@@ -172,7 +171,7 @@ returns c =
     let ended = end-is (now (c .before .before .before .before .before .before .before .before .args .session)) ∙ ap seconds (sym (c .before .before .before .before .before .word2 .ensures)) in
     let clocked = clock-is (now (c .before .before .before .before .before .before .before .before .args .session)) ∙ ap seconds (sym (c .before .before .before .before .before .before .word .ensures)) in (
       c .screen .ensures ∙ ap (λ (js : List ℕ). screened js (seconds (c .before .before .before .before .before .word2 .result)) (seconds (c .before .before .before .before .before .before .word .result)) e) named
-          ∙ sym (λ j. screened (ids (view z .lines)) (ended j) (clocked j) e),
+          ∙ sym (λ j. screened (session-ids (view z)) (ended j) (clocked j) e),
       until-end (z .hold) (z .count) (z .lines) (at .i) (at .quiet) (omega (arith, s .pre .few, s .pre .full)) all (at .inv .1),
     )
 

@@ -1,7 +1,7 @@
 -- `host_session::open` meets its contract. Assumes nothing.
 use denote.Ref.{now}
 use Rattle.method.specs.computed.Table.{opening}
-use Rattle.corridor.specs.declared.Opened.{Opened}
+use Rattle.corridor.specs.declared.OpenReply.{OpenReply}
 use Rattle.corridor.specs.View.{opened-session}
 use Rattle.host_session.proofs.Replies.{table-told, table-opened}
 use borrow.Author.Needs.{needs}
@@ -33,14 +33,14 @@ array-copy-out-result c = search needs
 returns : tie.Need-returns
 returns c =
     let e = c .before .before .before .before .before .«open» .ensures in
-    let told = table-opened (opened-session (opening (now (c .before .before .before .before .before .before .before .args .table))) .answer) (sym (ap (λ (z : Opened). z .answer) e) ∙ c .enum-told .given .1) in
-    (told .0, (told .1, c .before .before .kept .ensures ∙ ap (λ (z : Opened). z .session) e))
+    let told = table-opened (opened-session (opening (now (c .before .before .before .before .before .before .before .args .table))) .answer) (sym (ap (λ (z : OpenReply). z .answer) e) ∙ c .enum-told .given .1) in
+    (told .0, (told .1, c .before .before .kept .ensures ∙ ap (λ (z : OpenReply). z .session) e))
 
 returns-2 : tie.Need-returns-2
 returns-2 c =
     let e = c .before .before .before .before .before .before .before .before .before .«open» .ensures in
-    let told = table-told (opened-session (opening (now (c .before .before .before .before .before .before .before .before .before .before .before .args .table))) .answer) _ _ _ (sym (ap (λ (z : Opened). z .answer) e) ∙ c .before .before .before .before .answer .given .1) (c .before .before .row-numbers .ensures) in
-    ((search needs) ∙ told .0, ((search needs) ∙ told .1, c .before .before .before .before .before .before .kept .ensures ∙ ap (λ (z : Opened). z .session) e))
+    let told = table-told (opened-session (opening (now (c .before .before .before .before .before .before .before .before .before .before .before .args .table))) .answer) _ _ _ (sym (ap (λ (z : OpenReply). z .answer) e) ∙ c .before .before .before .before .answer .given .1) (c .before .before .row-numbers .ensures) in
+    ((search needs) ∙ told .0, ((search needs) ∙ told .1, c .before .before .before .before .before .before .kept .ensures ∙ ap (λ (z : OpenReply). z .session) e))
 
 pub open-spec : {M : Type 1} → statement M
 open-spec =

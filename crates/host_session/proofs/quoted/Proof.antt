@@ -6,8 +6,9 @@ use lib.ListN.{getD}
 use Rattle.method.specs.words.Types.{blank, millionths}
 use Rattle.method.specs.computed.Event.{with-book, quoted-line}
 use Rattle.pressure.specs.Asks.{Pressed}
+use Rattle.corridor.specs.View.{with-line}
 use Rattle.host_session.specs.Names.{Millionths, Line, Session}
-use Rattle.host_memory.specs.Memory.{session-in, with-line}
+use Rattle.host_memory.specs.Memory.{session-in}
 use Rattle.host_memory.proofs.Places.{left-is, near-is, line-at}
 use Rattle.host_session.proofs.quoted.Statement.{statement}
 use Rattle.host_session.proofs.quoted.Tie as tie

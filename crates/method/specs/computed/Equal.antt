@@ -4,7 +4,7 @@ use mathlib.Core.List.{List}
 use mathlib.Core.Logic.{_↔_}
 use mathlib.Core.Path.{_≡_}
 use Prim.Native.Nat.{ℕ, _<_}
-use Rattle.method.specs.words.Types.{ShiftLine, EventAnswer, State}
+use Rattle.method.specs.words.Types.{ShiftLine, EventAnswer, State, session-ids}
 use Rattle.method.specs.words.Ranges.{Every}
 use Rattle.method.specs.words.Tables.{Opening, TableAnswered}
 use Rattle.method.specs.words.Events.{IsEvent, EventAnswered}
@@ -13,7 +13,6 @@ use Rattle.method.specs.words.Rules.{Opens, AfterAny}
 use Rattle.method.specs.told.Types.{Row}
 use Rattle.method.specs.told.Program.{Prints}
 use Rattle.method.specs.told.Text.{Writes}
-use Rattle.method.specs.computed.Opening.{ids}
 use Rattle.method.specs.computed.Table.{opening}
 use Rattle.method.specs.computed.Shift.{onward}
 use Rattle.method.specs.computed.Event.{read, verdict, applied, next}
@@ -49,19 +48,19 @@ OneShift = (s : State) (c : ShiftLine) (n : State) → 0 < s .left → ShiftedTo
 -- of one event that is applied, where holds stand exactly where they are to; (computed-event)
 abbrev pub OneEvent : Type 0
 OneEvent =
-    (s : State) (b : List ℕ) (n : State) → Every (Exact (s .near) (s .left)) (s .lines) → Distinct (ids (s .lines)) → IsEvent b
+    (s : State) (b : List ℕ) (n : State) → Every (Exact (s .near) (s .left)) (s .lines) → Distinct (session-ids s) → IsEvent b
     → AppliedTo s b n ↔ (n ≡ applied (read b) s)
 
 -- and of an accepted event with its shift lines. (computed-next)
 abbrev pub OneNextState : Type 0
 OneNextState =
-    (s : State) → Sound s → Distinct (ids (s .lines)) → (b : List ℕ) (cs : List ShiftLine) (n : State)
+    (s : State) → Sound s → Distinct (session-ids s) → (b : List ℕ) (cs : List ShiftLine) (n : State)
     → Follows s b cs n ↔ (Right s (read b) (accepted cs) × (n ≡ next s (read b) (accepted cs)))
 
 -- ---- the relation that the proofs and the crates above use is the same (computed-answers),
 abbrev pub SameAnswers : Type 0
 SameAnswers =
-    (s : State) → Sound s → Distinct (ids (s .lines)) → (bs : List (List ℕ)) (rs : List Answer) (n : State)
+    (s : State) → Sound s → Distinct (session-ids s) → (bs : List (List ℕ)) (rs : List Answer) (n : State)
     → AnswersInWords s bs rs n ↔ (Answers s bs rs × (n ≡ reached s bs rs))
 
 -- has, from every sound state, the answers that `run` finds and no others, (computed-run)

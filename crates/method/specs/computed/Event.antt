@@ -13,7 +13,7 @@ use Rattle.method.specs.words.Ranges.{largest-quote}
 use Rattle.method.specs.words.Sessions.{Answer, accepted, refused}
 use Rattle.method.specs.told.Questions.{known, demand}
 use Rattle.method.specs.computed.Types.{Quote, Event, Damaged, Tick, Quoted}
-use Rattle.method.specs.computed.Judge.{judge}
+use Rattle.method.specs.computed.Judge.{judge-line}
 use Rattle.method.specs.computed.Shift.{with-lines, after}
 
 -- ---- what a byte string says
@@ -62,7 +62,7 @@ verdict s Damaged = EventAnswer.Refused EventReason.Malformed
 verdict s (Tick time) = in-session s time EventAnswer.Accepted
 verdict s (Quoted q) =
     in-session s (q .time)
-    (demand (known (q .id) (s .lines)) (EventAnswer.Refused EventReason.UnknownId)
+    (demand (known (q .id) s) (EventAnswer.Refused EventReason.UnknownId)
     (demand (not-crossed (q .bid) (q .ask)) (EventAnswer.Refused EventReason.Crossed) EventAnswer.Accepted))
 
 -- ---- what an accepted one does, after the shifts that it calls for
@@ -71,7 +71,7 @@ with-book l bid ask =
     record { terms = l .terms; market = l .market; limits = l .limits; book = record { bid = bid; ask = ask }; holds = l .holds }
 
 unfoldable pub quoted-line : Millionths → ℕ → Quote → Line → Line
-quoted-line near left q l = judge near left (q .time) (with-book l (q .bid) (q .ask))
+quoted-line near left q l = judge-line near left (q .time) (with-book l (q .bid) (q .ask))
 
 -- the line of the quote's id
 unfoldable pub quoted : Millionths → ℕ → Quote → List Line → List Line

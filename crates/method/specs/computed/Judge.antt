@@ -2,8 +2,10 @@
 use mathlib.Core.Bool.{Bool, true, false, _&&_}
 use Prim.Native.Nat.{ℕ}
 use lib.Dec.{ltb}
-use Rattle.method.specs.words.Types.{Millionths, Seconds, Up, Down, Hold, Idle, Since, Line}
-use Rattle.method.specs.words.Pressure.{presses}
+use Rattle.method.specs.words.Types.{Millionths, Seconds, Side, Up, Down, Limits, Book, Hold, Idle, Since, Holds, Line}
+use Rattle.method.specs.words.Ranges.{under-watch}
+use Rattle.method.specs.words.Pressure.{under-pressure}
+use Rattle.method.specs.computed.Types.{Watch}
 
 -- one hold, by whether its side is pressed (METHOD 14.2)
 unfoldable pub judged : Seconds → Bool → Hold → Hold
@@ -11,11 +13,25 @@ judged now false h = Idle
 judged now true Idle = Since now
 judged now true (Since start) = Since start
 
-abbrev pub with-holds : Line → Hold → Hold → Line
-with-holds l up down =
-    record { terms = l .terms; market = l .market; limits = l .limits; book = l .book; holds = record { up = up; down = down } }
+-- ---- both holds, over all that they hang on: whatever has limits, a book and holds is judged by it
+abbrev pub watched : Side → Watch → Bool
+watched Up w = w .up
+watched Down w = w .down
 
--- both holds of a line, where `left` shifts may still be made (METHOD 14.5)
-unfoldable pub judge : Millionths → ℕ → Seconds → Line → Line
-judge near left now l =
-    with-holds l (judged now (ltb 0 left && presses Up near l) (l .holds .up)) (judged now (ltb 0 left && presses Down near l) (l .holds .down))
+-- whether a side may have a hold: it is under pressure, while `left` shifts may still be made (METHOD 14.5)
+abbrev pub called-for : Side → Watch → Millionths → ℕ → Limits → Book → Bool
+called-for side w near left k b = ltb 0 left && under-pressure (watched side w) side near k b
+
+unfoldable pub judge : Watch → Millionths → ℕ → Seconds → Limits → Book → Holds → Holds
+judge w near left now k b h =
+    record { up = judged now (called-for Up w near left k b) (h .up); down = judged now (called-for Down w near left k b) (h .down) }
+
+-- ---- of a line
+abbrev pub watch-of : Line → Watch
+watch-of l = record { up = under-watch (l .terms .flags); down = under-watch (l .terms .flags) }
+
+abbrev pub with-holds : Line → Holds → Line
+with-holds l h = record { terms = l .terms; market = l .market; limits = l .limits; book = l .book; holds = h }
+
+unfoldable pub judge-line : Millionths → ℕ → Seconds → Line → Line
+judge-line near left now l = with-holds l (judge (watch-of l) near left now (l .limits) (l .book) (l .holds))

@@ -11,6 +11,7 @@ use Rattle.method.specs.words.Types.{Up, Down, Terms, Market, Limits, Pr
 use Rattle.method.specs.words.Ranges.{most-contracts, longest-session, longest-hold, most-shifts, largest-near-share, largest-price, largest-quote, permits-negative, Every}
 use Rattle.method.specs.words.Bounds.{bound}
 use Rattle.method.specs.computed.Types.{Event, Damaged, Tick, Quoted}
+use Rattle.method.specs.computed.Shift.{most-left}
 
 -- ---- bounds that follow from the ends that the words name; by them the code's sums and products fit
 -- of a half-move: half the largest half-width, at a shift share of the whole
@@ -37,6 +38,10 @@ largest-market-bound = 2 * largest-reach
 
 abbrev pub largest-bound : ℕ
 largest-bound = largest-market-bound * largest-factor / 1_000_000_000
+
+-- How far from 0 a limit may lie where pressure is judged. No contract's goes beyond the largest bound; up to here the products fit.
+abbrev pub largest-limit : ℕ
+largest-limit = 1_000_000_000_000
 
 -- ---- a line
 pub record FactorsIn (t : Terms) : Type 0 where
@@ -83,10 +88,10 @@ pub record OpeningIn (s : State) : Type 0 where
   pub clock : s .clock ≡ seconds 0
   pub end : Between 1 longest-session (s .end .0)
   pub hold : Between 1 longest-hold (s .hold .0)
-  pub left : s .left ≤ most-shifts
+  pub left : most-left s ≤ most-shifts
   pub near : Between 1 largest-near-share (s .near .0)
 
--- ---- a line while `left` shifts are left
+-- ---- a line while `left` shifts may still be made in all; room for more of them is room for fewer (`room-fewer`)
 pub record MarketRoom (left : ℕ) (m : Market) : Type 0 where
   pub centre : Within (reach left) (m .centre .0)
   pub half1 : Span (pos 1) (pos (reach left)) (m .half1 .0)
@@ -128,9 +133,9 @@ pub record Sane (s : State) : Type 0 where
   pub hold : Between 1 longest-hold (s .hold .0)
   pub end : s .end .0 ≤ longest-session
   pub clock : s .clock .0 ≤ s .end .0
-  pub left : s .left ≤ most-shifts
+  pub left : most-left s ≤ most-shifts
   pub near : Between 1 largest-near-share (s .near .0)
-  pub rooms : Every (Room (s .left)) (s .lines)
+  pub rooms : Every (Room (most-left s)) (s .lines)
 
 unfoldable pub EventIn : Event → Type 0
 EventIn Damaged = Unit {0}

@@ -8,7 +8,7 @@ use lib.ListN.{getD}
 use Rattle.method.specs.words.Types.{Seconds, Side, Up, Down, Hold, Idle, Since, Holds, Line, ShiftLine, Due, EventAnswer, seconds, State, blank}
 use Rattle.method.specs.words.Sessions.{Answer, accepted, refused}
 use Rattle.method.specs.computed.Types.{Event, Found, Nothing, At}
-use Rattle.method.specs.computed.Shift.{onward}
+use Rattle.method.specs.computed.Shift.{onward, most-left}
 use Rattle.method.specs.computed.Event.{read, verdict, next}
 use Rattle.method.specs.computed.Relation.{time}
 
@@ -56,17 +56,21 @@ abbrev pub if-due : Found → (Due → List ShiftLine) → List ShiftLine
 if-due Nothing onward = []
 if-due (At x) onward = onward x
 
--- at most n shifts; n is the number left
+-- at most n shifts; n is as many as may still be made
 unfoldable pub serve : ℕ → Seconds → State → List ShiftLine
 serve zero t s = []
 serve (suc n) t s = if-due (next-due t s) (λ (x : Due). called s x ∷ serve n t (onward s (called s x)))
 
-abbrev pub answered : EventAnswer → List ShiftLine → Answer
-answered EventAnswer.Accepted cs = accepted cs
-answered (EventAnswer.Refused why) cs = refused why
+-- the shift lines of all holds that are due by t
+unfoldable pub served-by : Seconds → State → List ShiftLine
+served-by t s = serve (most-left s) t s
+
+abbrev pub as-answer : EventAnswer → List ShiftLine → Answer
+as-answer EventAnswer.Accepted cs = accepted cs
+as-answer (EventAnswer.Refused why) cs = refused why
 
 unfoldable pub answer : State → Event → Answer
-answer s e = answered (verdict s e) (serve (s .left) (time e) s)
+answer s e = as-answer (verdict s e) (served-by (time e) s)
 
 -- the answers to a list of byte strings, and the state after them
 unfoldable pub run : State → List (List ℕ) → List Answer

@@ -4,11 +4,10 @@ use mathlib.Core.List.{List, [], _∷_}
 use mathlib.Core.Path.{_≡_}
 use Prim.Native.Nat.{ℕ, _≤_}
 use lib.Dec.{ltb}
-use Rattle.method.specs.words.Types.{Millionths, Side, Hold, Idle, Since, Line, State}
+use Rattle.method.specs.words.Types.{Millionths, Side, Hold, Idle, Since, Line, State, session-ids}
 use Rattle.method.specs.words.Ranges.{Every}
 use Rattle.method.specs.words.Pressure.{presses}
 use Rattle.method.specs.words.Holds.{Done, hold-of}
-use Rattle.method.specs.computed.Opening.{ids}
 use Rattle.method.specs.computed.Rooms.{Sane}
 
 abbrev pub standing : Hold → Bool
@@ -35,4 +34,4 @@ Distinct (i ∷ is) = Every (λ j. j ≡ i → ⊥) is × Distinct is
 pub record Proper (s : State) : Type 0 where
   pub sane : Sane s
   pub sound : Sound s
-  pub distinct : Distinct (ids (s .lines))
+  pub distinct : Distinct (session-ids s)

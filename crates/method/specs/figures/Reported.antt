@@ -6,7 +6,7 @@ use lib.IntN.{pos}
 use Rattle.method.specs.words.Types.{Absent, Given, Idle, Since, Line, steps, millionths, seconds, billionths, State}
 use Rattle.method.specs.words.Bounds.{factor, interest, bound}
 use Rattle.method.specs.told.Refusals.{event-number, Said, report-said}
-use Rattle.method.specs.told.Questions.{known, line-of}
+use Rattle.method.specs.told.Questions.{listed, line-of}
 use Rattle.method.specs.told.Report.{market-bounds, interest-bounds, hold-report, line-report, report}
 
 -- the sample table's state after a bid of 1046 at 10 and a tick at 69, written out by hand
@@ -17,7 +17,7 @@ sample-line =
           record {
             id = 7;
             flags = 2;
-            below = false;
+            negative = false;
             halfmove = steps (pos 25);
             factors = record { up = billionths 1_000_000_000; down = billionths 1_000_000_000 };
           };
@@ -50,10 +50,10 @@ sample-report =
     }
 
 pub report-figure : report-said (report 7 sample-state) ≡ sample-report
-unfolding factor interest bound known line-of event-number report-said market-bounds interest-bounds hold-report line-report report
+unfolding factor interest bound listed line-of event-number report-said market-bounds interest-bounds hold-report line-report report
 report-figure = refl
 
 -- an id that no line has
 pub report-refused : report-said (report 8 sample-state) ≡ record { number = 13; values = [] }
-unfolding factor interest bound known line-of event-number report-said market-bounds interest-bounds hold-report line-report report
+unfolding factor interest bound listed line-of event-number report-said market-bounds interest-bounds hold-report line-report report
 report-refused = refl

@@ -4,7 +4,7 @@ use mathlib.Core.List.{List, [], _∷_}
 use Prim.Native.Nat.{ℕ}
 use lib.Dec.{eqb}
 use lib.Signed.{ltZ}
-use Rattle.method.specs.words.Types.{Steps, Limits, Line, EventReason, State, blank}
+use Rattle.method.specs.words.Types.{Steps, Limits, Line, EventReason, State, session-ids, blank}
 use Rattle.method.specs.told.Types.{LimitsAnswer, PlaceAnswer, Below, Inside, Above}
 
 -- ---- a choice by a test: `demand` goes on where the test holds, and refuses where it does not
@@ -14,10 +14,13 @@ module _ {A : Type 0} where
   demand false refusal onward = refusal
 
 -- ---- the contract that is asked for
--- whether an id is a contract's
-unfoldable pub known : ℕ → List Line → Bool
-known id [] = false
-known id (l ∷ ls) = eqb (l .terms .id) id || known id ls
+-- whether an id is one of some ids, and whether it is one of the session's
+unfoldable pub listed : ℕ → List ℕ → Bool
+listed id [] = false
+listed id (i ∷ is) = eqb i id || listed id is
+
+abbrev pub known : ℕ → State → Bool
+known id s = listed id (session-ids s)
 
 -- the line of an id
 unfoldable pub line-of : ℕ → List Line → Line
@@ -27,11 +30,11 @@ line-of id (l ∷ ls) = cond (eqb (l .terms .id) id) l (line-of id ls)
 -- ---- the answers
 unfoldable pub limits : ℕ → State → LimitsAnswer
 limits id s =
-    demand (known id (s .lines)) (LimitsAnswer.Refused EventReason.UnknownId) (LimitsAnswer.Standing (line-of id (s .lines) .limits))
+    demand (known id s) (LimitsAnswer.Refused EventReason.UnknownId) (LimitsAnswer.Standing (line-of id (s .lines) .limits))
 
 -- a price on a limit is inside (METHOD 21.2)
 unfoldable pub placed : Limits → Steps → PlaceAnswer
 placed k p = cond (ltZ (p .0) (k .lower .0)) Below (cond (ltZ (k .upper .0) (p .0)) Above Inside)
 
 unfoldable pub place : ℕ → Steps → State → PlaceAnswer
-place id p s = demand (known id (s .lines)) (PlaceAnswer.Refused EventReason.UnknownId) (placed (line-of id (s .lines) .limits) p)
+place id p s = demand (known id s) (PlaceAnswer.Refused EventReason.UnknownId) (placed (line-of id (s .lines) .limits) p)

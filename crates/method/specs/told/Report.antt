@@ -41,5 +41,5 @@ line-report wait left clock l =
 
 unfoldable pub report : ℕ → State → ReportAnswer
 report id s =
-    demand (known id (s .lines)) (ReportAnswer.Refused EventReason.UnknownId)
+    demand (known id s) (ReportAnswer.Refused EventReason.UnknownId)
     (ReportAnswer.Standing (line-report (s .hold) (s .left) (s .clock) (line-of id (s .lines))))

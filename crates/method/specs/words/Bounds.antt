@@ -13,8 +13,8 @@ market-bound Down centre half = centre .0 -ℤ half .0
 
 -- Which factor a side takes hangs on the sign of P at opening, and on nothing later (METHOD 8.2, 8.3, 8.4).
 unfoldable pub factor : Side → Terms → ℕ
-factor Up t = cond (t .below) (t .factors .down .0) (t .factors .up .0)
-factor Down t = cond (t .below) (t .factors .up .0) (t .factors .down .0)
+factor Up t = cond (t .negative) (t .factors .down .0) (t .factors .up .0)
+factor Down t = cond (t .negative) (t .factors .up .0) (t .factors .down .0)
 
 -- a bound z times the factor f, rounded outward (METHOD 8.5)
 unfoldable pub interest : Side → ℕ → ℤ → ℤ

@@ -7,7 +7,7 @@ use lib.IntN.{ℤ, pos}
 use lib.ListN.{length}
 use lib.Signed.{_<ℤ_}
 use Rattle.numbers.specs.Ranges.{Within}
-use Rattle.method.specs.words.Types.{EventReason, EventAnswer, State}
+use Rattle.method.specs.words.Types.{EventReason, EventAnswer, State, session-ids}
 use Rattle.method.specs.words.Wire.{word, signed, bit}
 use Rattle.method.specs.words.Ranges.{largest-quote, Every}
 
@@ -38,9 +38,9 @@ pub record InSession (s : State) (b : List ℕ) : Type 0 where
   pub to-end : word b 0 ≤ s .end .0
   pub from-clock : s .clock .0 ≤ word b 0
 
--- the id stands nowhere in the table
+-- the id is none of the session's
 abbrev pub Unknown : State → List ℕ → Type 0
-Unknown s b = Every (λ l. l .terms .id ≡ word b 4 → ⊥) (s .lines)
+Unknown s b = Every (λ id. id ≡ word b 4 → ⊥) (session-ids s)
 
 -- both prices are present, and the bid is above the ask
 pub record IsCrossed (b : List ℕ) : Type 0 where

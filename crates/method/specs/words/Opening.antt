@@ -33,7 +33,7 @@ terms-of shift y c =
     record {
       id = c .id;
       flags = c .flags;
-      below = ltZ (c .price .0) (pos 0);
+      negative = ltZ (c .price .0) (pos 0);
       halfmove = half-move shift (half-width c (c .rate1));
       factors = factors-of y;
     }

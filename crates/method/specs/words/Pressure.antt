@@ -21,6 +21,10 @@ abbrev pub price : Side → Book → Price
 price Up b = b .bid
 price Down b = b .ask
 
--- only under watch (METHOD 13.1)
+-- a side is under pressure where it is watched and its price is close (METHOD 13.1)
+abbrev pub under-pressure : Bool → Side → Millionths → Limits → Book → Bool
+under-pressure watched side near k b = watched && close side near k (price side b)
+
+-- of a line: a contract is watched on both sides, or on neither
 unfoldable pub presses : Side → Millionths → Line → Bool
-presses side near l = under-watch (l .terms .flags) && close side near (l .limits) (price side (l .book))
+presses side near l = under-pressure (under-watch (l .terms .flags)) side near (l .limits) (l .book)

@@ -1,7 +1,7 @@
 -- The data of the method, as src/lib.rt declares them, and the state of a session (METHOD 1, 11.9, 18.4).
 -- A case that several enums have is written behind its enum, as `EventAnswer.Refused`.
 use mathlib.Core.Bool.{false}
-use mathlib.Core.List.{List}
+use mathlib.Core.List.{List, map}
 use Prim.Native.Nat.{ℕ}
 use lib.IntN.{ℤ, pos}
 pub use Rattle.numbers.specs.declared.Steps.{Steps}
@@ -52,6 +52,13 @@ pub record State : Type 0 where
   pub left : ℕ
   pub near : Millionths
 
+-- the ids that an event or a question may name
+abbrev pub ids : List Line → List ℕ
+ids ls = map (λ (l : Line). l .terms .id) ls
+
+abbrev pub session-ids : State → List ℕ
+session-ids s = ids (s .lines)
+
 abbrev pub empty-book : Book
 empty-book = record { bid = Absent; ask = Absent }
 
@@ -66,7 +73,7 @@ blank =
           record {
             id = 0;
             flags = 0;
-            below = false;
+            negative = false;
             halfmove = steps (pos 0);
             factors = record { up = billionths 0; down = billionths 0 };
           };

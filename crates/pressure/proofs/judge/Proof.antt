@@ -8,31 +8,32 @@ use Rattle.pressure.proofs.judge.Tie as tie
 
 returns : tie.Need-returns
 unfolding judge judged
-returns c = rw (le-ltb 0 (c .before .before .before .before .before .args .left) (omega (arith, c .before .before .before .before .if1 .taken)))
+returns c = rw (le-ltb 0 (c .before .args .left) (omega (arith, c .if1 .taken)))
 
-presses-requires : tie.Need-presses-requires
-presses-requires c κs = search needs
+under-pressure-requires : tie.Need-under-pressure-requires
+under-pressure-requires c κs = search needs
 
 judged-requires : tie.Need-judged-requires
 judged-requires c κs = search needs
 
-presses-requires-2 : tie.Need-presses-requires-2
-presses-requires-2 c κs = search needs
+under-pressure-requires-2 : tie.Need-under-pressure-requires-2
+under-pressure-requires-2 c κs = search needs
 
 judged-requires-2 : tie.Need-judged-requires-2
 judged-requires-2 c κs = search needs
 
 returns-2 : tie.Need-returns-2
 unfolding judge
-returns-2 c = rw (c .before .before .before .before .judged2 .ensures, c .before .before .before .before .before .presses2 .ensures, c .before .before .before .before .before .before .judged .ensures, c .before .before .before .before .before .before .before .presses .ensures, lt-ltb 0 (c .before .before .before .before .before .before .before .before .before .before .args .left) (omega (arith, c .before .before .before .before .before .before .before .before .before .if1 .left)))
+returns-2 c =
+    rw (c .judged2 .ensures, c .before .under-pressure2 .ensures, c .before .before .judged .ensures, c .before .before .before .under-pressure .ensures, lt-ltb 0 (c .before .before .before .before .before .args .left) (omega (arith, c .before .before .before .before .if1 .left)))
 
 pub judge-spec : {M : Type 1} → statement M
 judge-spec =
     tie.close
     (tie.spec
     returns
-    presses-requires
+    under-pressure-requires
     judged-requires
-    presses-requires-2
+    under-pressure-requires-2
     judged-requires-2
     returns-2)

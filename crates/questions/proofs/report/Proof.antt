@@ -1,11 +1,10 @@
 -- `questions::report` meets its contract. Assumes nothing.
 use borrow.Author.Needs.{needs}
 use mathlib.Core.Path.{sym, ap, _∙_}
-use Rattle.method.specs.computed.Rooms.{Room}
 use Rattle.questions.specs.Names.{ReportAnswer}
 use Rattle.questions.specs.declared.Sought.{Sought}
 use Rattle.corridor.specs.View.{view}
-use Rattle.questions.proofs.Asking.{sought-every, report-by}
+use Rattle.questions.proofs.Asking.{sought-room, report-by}
 use Rattle.questions.proofs.report.Statement.{statement}
 use Rattle.questions.proofs.report.Tie as tie
 
@@ -22,7 +21,7 @@ line-report-requires : tie.Need-line-report-requires
 line-report-requires c κs =
     let s = c .before .before .before .before .before .before in
     let l = c .before .before .before .l .given in
-    (s .pre .sane .hold .most, sought-every (Room (s .args .s .left)) (s .args .id) (view (s .args .s)) (l .0 .0) (s .pre .sane .rooms) (sym (l .1) ∙ c .before .before .before .before .before .found .ensures))
+    (s .pre .sane .hold .most, sought-room (s .args .id) (view (s .args .s)) (l .0 .0) (s .pre .sane) (sym (l .1) ∙ c .before .before .before .before .before .found .ensures))
 
 returns : tie.Need-returns
 returns c =

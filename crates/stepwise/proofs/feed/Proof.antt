@@ -16,13 +16,13 @@ Inv-loop events out₀ size needed session₀ at₀ from₀ out session at from 
 abbrev μ-loop : tie.MeasureT-loop
 μ-loop events out₀ size needed session₀ at₀ from₀ out session at from = size - from
 
-room-requires : tie.Need-room-requires Inv-loop μ-loop
-room-requires c κs = omega arith
+needed-requires : tie.Need-needed-requires Inv-loop μ-loop
+needed-requires c κs = omega arith
 
 returns : tie.Need-returns Inv-loop μ-loop
 returns c =
     let s = c .before .before .before in
-    let e = c .before .room .ensures in (
+    let e = c .before .needed .ensures in (
       nothing-fed (s .args .first) (now (s .args .out)) (now (s .args .events)) e (c .if1 .taken),
       nothing-into (s .args .first) (now (s .args .out)) (now (s .args .events)) e (c .if1 .taken),
     )
@@ -31,7 +31,7 @@ loop-holds : tie.Need-loop-holds Inv-loop μ-loop
 loop-holds c =
     let s = c .before .before .before in
     ahead-start (s .args .first) (now (s .args .events)) (now (s .args .out)) (s .pre)
-    (omega (arith, c .before .room .ensures, c .if1 .left))
+    (omega (arith, c .before .needed .ensures, c .if1 .left))
 
 cut-requires : tie.Need-cut-requires Inv-loop μ-loop
 cut-requires c κs = c .loop-test .taken
@@ -87,9 +87,9 @@ returns-2 c =
     let at = c .before .loop in
     let last : at .from ≡ length (now (s .args .events)) = omega (arith, at .inv .inside) in (
       all-fed (s .args .first) (now (s .args .events)) (now (s .args .out)) (at .inv) last
-          (omega (arith, c .before .before .before .room .ensures, c .before .before .if1 .left)),
+          (omega (arith, c .before .before .before .needed .ensures, c .before .before .if1 .left)),
       all-into (s .args .first) (now (s .args .events)) (now (s .args .out)) (at .inv) last
-          (omega (arith, c .before .before .before .room .ensures, c .before .before .if1 .left)),
+          (omega (arith, c .before .before .before .needed .ensures, c .before .before .if1 .left)),
     )
 
 pub feed-spec : {M : Type 1} → statement M
@@ -98,7 +98,7 @@ feed-spec =
     (tie.spec
     Inv-loop
     μ-loop
-    room-requires
+    needed-requires
     returns
     loop-holds
     cut-requires

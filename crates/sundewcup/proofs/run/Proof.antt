@@ -5,7 +5,7 @@ use mathlib.Core.Path.{_≡_}
 use Prim.Native.Nat.{_+_, _≤_}
 use native.Mathlib.Omega.{arith}
 use lib.ListN.{length}
-use Rattle.sundewcup.specs.Running.{room}
+use Rattle.sundewcup.specs.Running.{run-needs}
 use Rattle.sundewcup.proofs.Whole.{none-ran, none-into, refused-ran, refused-into, first-valid, told-long, told-last, at-inside, part-long, opened-small, opened-ran, opened-into}
 use Rattle.sundewcup.proofs.run.Statement.{statement}
 use Rattle.sundewcup.proofs.run.Tie as tie
@@ -14,20 +14,20 @@ use Rattle.sundewcup.proofs.run.Tie as tie
 abbrev start : tie.After-open → tie.Start
 start c = c .before .before .before .before .before
 
-abbrev opening : tie.After-answered → tie.After-open
+abbrev opening : tie.After-fed → tie.After-open
 opening c = c .before .before .before .before .before
 
-abbrev answering : tie.After-last → tie.After-answered
+abbrev answering : tie.After-last → tie.After-fed
 answering c = c .before .before
 
 -- ---- no room
-room-requires : tie.Need-room-requires
-room-requires c κs = search needs
+needed-requires : tie.Need-needed-requires
+needed-requires c κs = search needs
 
 returns : tie.Need-returns
 returns c =
     let s = c .before .before .before .before in
-    let e = c .before .room .ensures in (
+    let e = c .before .needed .ensures in (
       none-ran (now (s .args .table)) (now (s .args .events)) (now (s .args .out)) e (c .if1 .taken),
       none-into (now (s .args .table)) (now (s .args .events)) (now (s .args .out)) e (c .if1 .taken),
     )
@@ -35,8 +35,8 @@ returns c =
 open-requires : tie.Need-open-requires
 open-requires c κs = search needs
 
-enough : (c : tie.After-open) → room (length (now (start c .args .events))) ≤ length (now (start c .args .out))
-enough c = omega (arith, c .before .before .room .ensures, c .before .if1 .left)
+enough : (c : tie.After-open) → run-needs (length (now (start c .args .events))) ≤ length (now (start c .args .out))
+enough c = omega (arith, c .before .before .needed .ensures, c .before .if1 .left)
 
 -- ---- a refused table
 enum-known-answer : tie.Need-enum-known-answer
@@ -61,8 +61,8 @@ returns-2 c =
 enum-told : tie.Need-enum-told
 enum-told c = search needs
 
-answered-requires : tie.Need-answered-requires
-answered-requires c κs =
+fed-requires : tie.Need-fed-requires
+fed-requires c κs =
     let o = c .before .before .before .before in
     let s = start o in (
       first-valid (now (s .args .table)) (now (s .args .events)) (now (s .args .out)) (enough o) _ (o .«open» .ensures) (c .before .before .enum-told .given .1),
@@ -70,19 +70,19 @@ answered-requires c κs =
     )
 
 -- The buffer keeps its length, and the answers leave room for the closing rows.
-same-room : (c : tie.After-answered) → length (c .answered .last .1 .1 .0) ≡ length (now (start (opening c) .args .out))
+same-room : (c : tie.After-fed) → length (c .fed .last .1 .1 .0) ≡ length (now (start (opening c) .args .out))
 same-room c =
     let o = opening c in
     let s = start o in
-    let a = c .answered in
+    let a = c .fed in
     told-long (now (s .args .table)) (now (s .args .events)) (now (s .args .out)) (enough o) _ (o .«open» .ensures)
     (c .before .before .before .enum-told .given .1) (a .result) (a .ensures .0) (a .ensures .1)
 
-place-inside : (c : tie.After-answered) → c .answered .result .count + 192 ≤ length (now (start (opening c) .args .out))
+place-inside : (c : tie.After-fed) → c .fed .result .count + 192 ≤ length (now (start (opening c) .args .out))
 place-inside c =
     let o = opening c in
     let s = start o in
-    let a = c .answered in
+    let a = c .fed in
     at-inside (now (s .args .table)) (now (s .args .events)) (now (s .args .out)) (enough o) _ (o .«open» .ensures)
     (c .before .before .before .enum-told .given .1) (a .result) (a .ensures .0) (a .ensures .1)
 
@@ -104,7 +104,7 @@ closed-requires c κs =
     let at = answering (c .before) in
     let o = opening at in
     let s = start o in
-    let a = at .answered in
+    let a = at .fed in
     let opened = at .before .before .before .enum-told .given .1 in (
       told-last (now (s .args .table)) (now (s .args .events)) (now (s .args .out)) (enough o) _ (o .«open» .ensures) opened (a .result) (a .ensures .0) (a .ensures .1),
       part-long (now (s .args .table)) (now (s .args .events)) (now (s .args .out)) (enough o) _ (o .«open» .ensures) opened (a .result) (a .ensures .0) (a .ensures .1),
@@ -115,7 +115,7 @@ add-t23 c =
     let at = answering (c .before .before .before) in
     let o = opening at in
     let s = start o in
-    let a = at .answered in
+    let a = at .fed in
     let small =
     opened-small (now (s .args .table)) (now (s .args .events)) (now (s .args .out)) (enough o) _ (o .«open» .ensures)
     (at .before .before .before .enum-told .given .1) (a .result) (a .ensures .0) (a .ensures .1) (c .before .closed .ensures .0) in
@@ -129,7 +129,7 @@ returns-3 c =
     let at = answering (c .before .before .before) in
     let o = opening at in
     let s = start o in
-    let a = at .answered in
+    let a = at .fed in
     let k = c .before .closed in
     let opened = at .before .before .before .enum-told .given .1 in (
       opened-ran (now (s .args .table)) (now (s .args .events)) (now (s .args .out)) (enough o) _ (o .«open» .ensures) opened
@@ -142,13 +142,13 @@ pub run-spec : {M : Type 1} → statement M
 run-spec =
     tie.close
     (tie.spec
-    room-requires
+    needed-requires
     returns
     open-requires
     enum-known-answer
     write-requires
     enum-told
-    answered-requires
+    fed-requires
     mul-closed
     sub-closed
     part-closed-start

@@ -1,7 +1,7 @@
 -- `sundewcup::sundewcup_run` meets its contract. Assumes nothing.
 use borrow.Author.Needs.{needs}
 use mathlib.Core.Path.{ap, _∙_}
-use Rattle.counting.specs.Answered.{number-in}
+use Rattle.counting.specs.Counted.{number-in}
 use Rattle.sundewcup.proofs.sundewcup_run.Statement.{statement}
 use Rattle.sundewcup.proofs.sundewcup_run.Tie as tie
 

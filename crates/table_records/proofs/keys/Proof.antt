@@ -5,7 +5,7 @@ use native.Mathlib.Omega.{arith}
 use denote.Ref.{now}
 use Rattle.numbers.specs.Arrays.{padded}
 use Rattle.method.specs.words.Layout.{keys-at}
-use Rattle.table_records.specs.Keys.{no-key}
+use Rattle.method.specs.computed.Types.{no-key}
 use Rattle.table_records.proofs.Reading.{keys-read}
 use Rattle.table_records.proofs.keys.Statement.{statement}
 use Rattle.table_records.proofs.keys.Tie as tie

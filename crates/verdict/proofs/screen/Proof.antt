@@ -11,8 +11,8 @@ enum-told c = search needs
 enum-known-e : tie.Need-enum-known-e
 enum-known-e c = search needs
 
-timely-requires : tie.Need-timely-requires
-timely-requires c κs = search needs
+if-in-session-requires : tie.Need-if-in-session-requires
+if-in-session-requires c κs = search needs
 
 enum-known-e-2 : tie.Need-enum-known-e-2
 enum-known-e-2 c = search needs
@@ -20,8 +20,8 @@ enum-known-e-2 c = search needs
 quote-screened-requires : tie.Need-quote-screened-requires
 quote-screened-requires c κs = search needs
 
-timely-requires-2 : tie.Need-timely-requires-2
-timely-requires-2 c κs = search needs
+if-in-session-requires-2 : tie.Need-if-in-session-requires-2
+if-in-session-requires-2 c κs = search needs
 
 returns : tie.Need-returns
 unfolding screened
@@ -29,11 +29,11 @@ returns c = rw (c .enum-told .given .1)
 
 returns-2 : tie.Need-returns-2
 unfolding screened
-returns-2 c = rw (c .before .before .e .given .1) (c .timely .ensures)
+returns-2 c = rw (c .before .before .e .given .1) (c .if-in-session .ensures)
 
 returns-3 : tie.Need-returns-3
 unfolding screened
-returns-3 c = rw (c .before .before .before .before .e2 .given .1) (c .timely2 .ensures ∙ (rw (c .before .quote-screened .ensures)))
+returns-3 c = rw (c .before .before .before .before .e2 .given .1) (c .if-in-session2 .ensures ∙ (rw (c .before .quote-screened .ensures)))
 
 pub screen-spec : {M : Type 1} → statement M
 screen-spec =
@@ -41,10 +41,10 @@ screen-spec =
     (tie.spec
     enum-told
     enum-known-e
-    timely-requires
+    if-in-session-requires
     enum-known-e-2
     quote-screened-requires
-    timely-requires-2
+    if-in-session-requires-2
     returns
     returns-2
     returns-3)

@@ -8,7 +8,8 @@ use Rattle.verdict.specs.declared.PlacedQuote.{PlacedQuote}
 use Rattle.verdict.specs.declared.Taken.{Taken}
 use Rattle.corridor.specs.Names.{Line}
 use Rattle.corridor.specs.declared.Session.{Session}
-use Rattle.corridor.specs.Applied.{moved-on, lines-after, applied-to, Applies}
+use Rattle.corridor.specs.View.{moved-on}
+use Rattle.corridor.specs.Applied.{lines-after, applied-to, Applies}
 use Rattle.corridor.proofs.Session.applied.Statement.{statement}
 use Rattle.corridor.proofs.Session.applied.Tie as tie
 

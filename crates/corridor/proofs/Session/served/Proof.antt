@@ -1,13 +1,14 @@
 -- `corridor::Session::served` meets its contract. Assumes nothing.
 use borrow.Author.Needs.{needs}
 use mathlib.Core.Path.{_≡_, refl, _∙_}
-use Prim.Native.Nat.{_≤_, _-_}
+use Prim.Native.Nat.{_≤_, _<_, _-_}
 use native.Mathlib.Omega.{arith}
-use Rattle.method.specs.computed.Shift.{shifted}
+use Rattle.method.specs.computed.Shift.{shifted, most-left}
 use Rattle.method.specs.computed.Search.{next-due}
+use Rattle.method.proofs.Head.{left-most, most-shifted}
 use Rattle.corridor.specs.Names.{Seconds, Due, At}
 use Rattle.corridor.specs.View.{view}
-use Rattle.corridor.proofs.Views.{ranged-length}
+use Rattle.corridor.proofs.Views.{view-put, ranged-length}
 use Rattle.corridor.proofs.Due.{Passed, row-passes, passed-turn, Next, next-is}
 use Rattle.corridor.proofs.DueServed.{Going, going-start, going-found, going-end, line-is, going-turn}
 use Rattle.corridor.proofs.Session.served.Statement.{statement}
@@ -23,7 +24,7 @@ abbrev Inv-serving : tie.InvT-serving
 Inv-serving t self₀ n wait end shifts₀ made₀ self shifts made = Going t self₀ n wait end self shifts made
 
 abbrev μ-serving : tie.MeasureT-serving
-μ-serving t self₀ n wait end shifts₀ made₀ self shifts made = self .left
+μ-serving t self₀ n wait end shifts₀ made₀ self shifts made = most-left (view self)
 
 -- ---- the places that are gone back to
 abbrev Serving : Type 0
@@ -49,6 +50,12 @@ found c =
 
 told : (c : Handed) → Next (second c) (view (serving c .serving .self)) (hold c)
 told c = next-is _ _ _ (found c)
+
+-- so one more line has its place
+room-left : (c : Handed) → serving c .serving .made < 16
+room-left c =
+    let g = serving c .serving .inv in
+    omega (arith, g .counted, g .spent, told c .left, left-most (view (serving c .serving .self)))
 
 serving-holds : tie.Need-serving-holds Inv-loop μ-loop Inv-serving μ-serving
 serving-holds c = going-start _ _ (c .before .before .pre)
@@ -94,22 +101,22 @@ element-copy-out-id : tie.Need-element-copy-out-id Inv-loop μ-loop Inv-serving 
 element-copy-out-id c = let g = serving c .serving .inv in omega (arith, told c .place, ranged-length (g .ranged))
 
 mul-shifts : tie.Need-mul-shifts Inv-loop μ-loop Inv-serving μ-serving
-mul-shifts c = omega (arith, told (c .before) .left)
+mul-shifts c = omega (arith, room-left (c .before))
 
 array-set-from-shifts : tie.Need-array-set-from-shifts Inv-loop μ-loop Inv-serving μ-serving
-array-set-from-shifts c = omega (arith, told (c .before) .left)
+array-set-from-shifts c = omega (arith, room-left (c .before))
 
 add-made : tie.Need-add-made Inv-loop μ-loop Inv-serving μ-serving
-add-made c = omega (arith, told (c .before) .left)
+add-made c = omega (arith, room-left (c .before))
 
 shifted-requires : tie.Need-shifted-requires Inv-loop μ-loop Inv-serving μ-serving
 shifted-requires c κs = (serving (c .before) .serving .inv .ranged, told (c .before) .left)
 
 serving-less : tie.Need-serving-less Inv-loop μ-loop Inv-serving μ-serving
-unfolding shifted
 serving-less c =
-    let o = told (c .before .before) .left in
-    rw (c .shifted .ensures) (omega arith)
+    let at = c .before .before in
+    let s = serving at .serving .self in
+    rw (c .shifted .ensures, view-put s (shifted (hold at .side) (hold at .second) (view s))) (most-shifted (hold at .side) (hold at .second) (view s) (told at .left))
 
 serving-again : tie.Need-serving-again Inv-loop μ-loop Inv-serving μ-serving
 serving-again c =

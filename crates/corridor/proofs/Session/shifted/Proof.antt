@@ -1,20 +1,23 @@
 -- `corridor::Session::shifted` meets its contract. Assumes nothing.
 use borrow.Author.Needs.{needs}
-use mathlib.Core.Path.{_≡_, refl, subst}
-use Prim.Native.Nat.{ℕ, suc, _≤_, _-_}
+use mathlib.Core.Path.{_≡_, refl}
+use Prim.Native.Nat.{suc, _≤_, _-_}
 use native.Mathlib.Omega.{arith}
 use lib.ListN.{getD}
 use Rattle.method.specs.words.Types.{blank}
 use Rattle.method.specs.computed.Shift.{shift-line}
 use Rattle.method.specs.computed.Rooms.{Room}
+use Rattle.method.proofs.Rooms.{room-fewer}
+use Rattle.method.proofs.Head.{left-most}
 use Rattle.shifts.proofs.Rooms.{room-shifts}
+use Rattle.corridor.specs.View.{view, moved-on}
 use Rattle.corridor.proofs.Rows.{changed, changed-at, room-at}
-use Rattle.corridor.proofs.Shifting.{with-rows, change-turn, all-shifted}
+use Rattle.corridor.proofs.Shifting.{change-turn, all-shifted}
 use Rattle.corridor.proofs.Session.shifted.Statement.{statement}
 use Rattle.corridor.proofs.Session.shifted.Tie as tie
 
 abbrev Inv-loop : tie.InvT-loop
-Inv-loop side now self₀ n near left place₀ self place = (place ≤ n) × (self ≡ with-rows self₀ (changed (shift-line near left side now) place (self₀ .lines)))
+Inv-loop side now self₀ n near left place₀ self place = (place ≤ n) × (self ≡ moved-on self₀ (changed (shift-line near left side now) place (self₀ .lines)) (self₀ .clock))
 
 abbrev μ-loop : tie.MeasureT-loop
 μ-loop side now self₀ n near left place₀ self place = n - place
@@ -37,8 +40,8 @@ shift-line-requires c κs =
     let v = c .before .before .before .before .pre .0 in
     let s = c .before .before .before .before .args .t1 in
     let i = c .before .before .loop .place in
-    let one-more : s .left ≡ suc (s .left - 1) = omega arith in
-    let r : Room (suc (s .left - 1)) (getD (s .lines) i blank) = subst (λ (k : ℕ). Room k (getD (s .lines) i blank)) one-more (room-at i v (omega arith)) in
+    let most = left-most (view s) in
+    let r : Room (suc (s .left - 1)) (getD (s .lines) i blank) = room-fewer (omega arith) (room-at i v (omega arith)) in
     rw (c .before .before .loop .inv .1, changed-at) (room-shifts (s .near) (omega (arith, v .sane .left)) (v .sane .near .most) r)
 
 mul-m : tie.Need-mul-m Inv-loop μ-loop

@@ -120,7 +120,7 @@ returns c = λ i.
           record {
             id = c .before .before .before .word .ensures i;
             flags = c .before .before .word2 .ensures i;
-            below = c .before .mark .ensures i;
+            negative = c .before .mark .ensures i;
             halfmove = c .before .before .before .before .before .before .before .before .before .before .before .before .before .before .signed .ensures i;
             factors = line-in (c .before .before .before .before .before .before .before .before .before .before .before .before .before .before .before .args .t1) .terms .factors;
           };

@@ -58,7 +58,7 @@ returns c = λ i.
           record {
             id = c .before .before .before .before .before .before .before .before .before .before .word-number .ensures i;
             flags = c .before .before .before .before .before .before .before .before .before .word-number2 .ensures i;
-            below = c .before .before .before .before .before .before .before .before .mark-number .ensures i;
+            negative = c .before .before .before .before .before .before .before .before .mark-number .ensures i;
             halfmove = steps (c .before .before .before .before .before .before .before .signed-number .ensures i);
             factors = c .before .before .before .before .before .before .before .before .before .before .before .before .before .before .before .before .before .before .before .before .before .before .before .before .before .before .before .args .l .terms .factors;
           };
