@@ -19,6 +19,7 @@ use Rattle.method.specs.words.Tables.{Opening, opened, refused}
 use Rattle.method.specs.told.Questions.{demand}
 use Rattle.method.specs.computed.Table.{header-good, opening}
 use Rattle.method.proofs.Table.{header-in, not-opened}
+use Rattle.session.specs.Reading.{longest-table}
 
 word-front : (n : ℕ) (b : List ℕ) (at : ℕ) → at + 4 ≤ n → word (take n b) at ≡ word b at
 unfolding word
@@ -68,7 +69,7 @@ never-opened true h s = go (eqb (h .edition) 1)
     go true = not-opened
     go false = not-opened
 
-out-of-range : (h : Header) → 1_448 < table-length h → header-good h ≡ false
+out-of-range : (h : Header) → longest-table < table-length h → header-good h ≡ false
 out-of-range h many = go (header-good h) refl
   where
     go : (t : Bool) → header-good h ≡ t → header-good h ≡ false
@@ -79,7 +80,7 @@ by-header : (b : List ℕ) → header-good (header-of b) ≡ false → opening b
 unfolding opening
 by-header b e = rw e
 
-module _ (b : List ℕ) (many : 1_448 < table-length (header-of b)) where
+module _ (b : List ℕ) (many : longest-table < table-length (header-of b)) where
   front-answer : (n : ℕ) → 40 ≤ n → opening (take n b) ≡ header-answer (leb 40 (length b)) (header-of b)
   front-answer n h =
       by-header (take n b) (ap header-good (header-front n b h) ∙ out-of-range (header-of b) many)

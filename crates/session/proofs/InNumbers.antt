@@ -27,7 +27,7 @@ use Rattle.feeding.specs.Chunks.{all-bytes, WholeButLast, told-in, left-in}
 use Rattle.corridor.proofs.Views.{view-put}
 use Rattle.corridor.proofs.Theorems.{valid-open}
 use Rattle.feeding.proofs.Joined.{one-buffer}
-use Rattle.session.specs.Reading.{table-end}
+use Rattle.session.specs.Reading.{longest-table, table-end}
 use Rattle.closing.specs.Closing.{closing-numbers}
 use Rattle.session.proofs.HeaderAlone.{same-answer, is-refused}
 
@@ -69,10 +69,10 @@ module _ (input : List ℕ) (chunks : List (List ℕ)) (w : WholeButLast chunks)
   abbrev size : ℕ
   size = table-length (header-of input)
 
-  by-counts : (t : Bool) → ltb 1_448 size ≡ t → all-bytes chunks ≡ drop (cond t 40 size) input
+  by-counts : (t : Bool) → ltb longest-table size ≡ t → all-bytes chunks ≡ drop (cond t 40 size) input
       → numbers-after (opening (take (cond t 40 size) input)) chunks ≡ numbers-of (rows-after (opening (take size input)) (events-of (drop size input)))
   by-counts true t e =
-      let many = ltb-true 1_448 size t in
+      let many = ltb-true longest-table size t in
       rw (same-answer input many 40 size (omega arith) (omega arith))
       (after-refusal (opening (take size input)) chunks (events-of (drop size input)) (is-refused input many size (omega arith)))
   by-counts false t e =
@@ -82,4 +82,4 @@ module _ (input : List ℕ) (chunks : List (List ℕ)) (w : WholeButLast chunks)
 pub whole-in-numbers : (input : List ℕ) (chunks : List (List ℕ)) → WholeButLast chunks → all-bytes chunks ≡ drop (table-end (header-of input)) input
     → numbers-after (opening (take (table-end (header-of input)) input)) chunks ≡ numbers-of (program input)
 unfolding program table-end
-whole-in-numbers input chunks w = by-counts input chunks w (ltb 1_448 (table-length (header-of input))) refl
+whole-in-numbers input chunks w = by-counts input chunks w (ltb longest-table (table-length (header-of input))) refl

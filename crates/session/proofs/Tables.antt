@@ -10,20 +10,20 @@ use lib.ListN.{length, take, drop, length-append, length-drop}
 use lib.Seq.{length-take-le}
 use Rattle.method.specs.declared.Header.{Header}
 use Rattle.method.specs.words.Layout.{table-length}
-use Rattle.session.specs.Reading.{table-end}
+use Rattle.session.specs.Reading.{longest-table, table-end}
 
 -- the header by itself at least, and the longest table at most
 pub record EndIn (end : ℕ) : Type 0 where
   pub least : 40 ≤ end
-  pub most : end ≤ 1_448
+  pub most : end ≤ longest-table
 
 pub end-in : {end : ℕ} (h : Header) → end ≡ table-end h → EndIn end
 unfolding table-end
-end-in {end} h e = go (ltb 1_448 (table-length h)) refl e
+end-in {end} h e = go (ltb longest-table (table-length h)) refl e
   where
-    go : (t : Bool) → ltb 1_448 (table-length h) ≡ t → end ≡ cond t 40 (table-length h) → EndIn end
+    go : (t : Bool) → ltb longest-table (table-length h) ≡ t → end ≡ cond t 40 (table-length h) → EndIn end
     go true t e = record { least = omega arith; most = omega arith }
-    go false t e = let few = ltb-false 1_448 (table-length h) t in record { least = omega arith; most = omega arith }
+    go false t e = let few = ltb-false longest-table (table-length h) t in record { least = omega arith; most = omega arith }
 
 pub header-long : (room : List ℕ) → 40 ≤ length room → 40 ≡ length (take 40 room)
 header-long room h = sym (length-take-le 40 room h)

@@ -7,6 +7,7 @@
 
 ghost use mathlib.Core.Path.{_≡_};
 ghost use lib.ListN.{length};
+ghost use Rattle.session.specs.Reading.{longest-table};
 use corridor::Session;
 use method::TableAnswer;
 use method::TableReason;
@@ -21,9 +22,9 @@ pub enum Filled {
     Failed,
 }
 
-// The longest table has 16 keys and 32 contracts. A function of its own keeps a buffer's elements out of the callers' goals.
+// As long as the longest table. A function of its own keeps a buffer's elements out of the callers' goals.
 fn table_room() -> [u8; 1448]
-    ensures { λ r. ⌜ 1448 ≡ length r ⌝ }
+    ensures { λ r. ⌜ longest-table ≡ length r ⌝ }
 {
     [0; 1448]
 }

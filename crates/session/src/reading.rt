@@ -4,8 +4,12 @@ ghost use mathlib.Core.Path.{_≡_};
 ghost use Prim.Native.Nat.{_≤_};
 ghost use lib.ListN.{length};
 ghost use Rattle.method.specs.words.Layout.{header-of};
-ghost use Rattle.session.specs.Reading.{table-end, Within};
+ghost use Rattle.session.specs.Reading.{longest-table, table-end, Within};
 use crate::Filled;
+
+const LONGEST_TABLE: usize = 40
+    + 8 * method::MOST_KEYS as usize
+    + 40 * method::MOST_CONTRACTS as usize;
 
 // A read of 0 bytes is the end of the input, and a negative answer a failure.
 pub(crate) fn fill(room: &mut [u8]) -> Filled
@@ -32,7 +36,7 @@ fn table_end(header: &[u8]) -> usize
     ensures { λ r. ⌜ r ≡ table-end (header-of (now (header .entry))) ⌝ }
 {
     let end = table::ends_at(header);
-    if 1448 < end {
+    if LONGEST_TABLE < end {
         return 40;
     }
     end
@@ -40,7 +44,7 @@ fn table_end(header: &[u8]) -> usize
 
 // Reads no further than the counts say, since what follows is events. Input that ends earlier is a shorter table.
 pub(crate) fn table(room: &mut [u8]) -> Filled
-    requires { ⌜ length (now room) ≡ 1448 ⌝ }
+    requires { ⌜ length (now room) ≡ longest-table ⌝ }
     ensures { λ r. ⌜ Within r (now (room .exit)) ⌝ }
 {
     let header = fill(&mut room[..40]);

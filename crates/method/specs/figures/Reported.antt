@@ -3,13 +3,18 @@ use mathlib.Core.Bool.{false}
 use mathlib.Core.List.{[], _∷_}
 use mathlib.Core.Path.{_≡_, refl}
 use lib.IntN.{pos}
-use Rattle.method.specs.words.Types.{Absent, Given, Idle, Since, Line, steps, millionths, seconds, billionths, State}
+use Rattle.method.specs.words.Types.{Absent, Given, Idle, Since, Line, steps, seconds, billionths, State}
+use Rattle.method.specs.words.Wire.{word}
+use Rattle.method.specs.words.Layout.{header-of}
 use Rattle.method.specs.words.Bounds.{factor, interest, bound}
+use Rattle.method.specs.words.Tables.{opening-state}
 use Rattle.method.specs.told.Refusals.{event-number, Said, report-said}
 use Rattle.method.specs.told.Questions.{listed, line-of}
 use Rattle.method.specs.told.Report.{market-bounds, interest-bounds, hold-report, line-report, report}
+use Rattle.method.specs.computed.Shift.{with-lines}
+use Rattle.method.specs.figures.Inputs.{sample}
 
--- the sample table's state after a bid of 1046 at 10 and a tick at 69, written out by hand
+-- the sample table's line and state after a bid of 1046 at 10 and a tick at 69, the line written out by hand
 abbrev sample-line : Line
 sample-line =
     record {
@@ -28,15 +33,7 @@ sample-line =
     }
 
 abbrev sample-state : State
-sample-state =
-    record {
-      lines = sample-line ∷ [];
-      clock = seconds 69;
-      end = seconds 1_000;
-      hold = seconds 60;
-      left = 2;
-      near = millionths 50_000;
-    }
+sample-state = with-lines (opening-state (header-of (sample 1_000 2 (7 ∷ []) [])) []) (sample-line ∷ []) 2 (seconds 69)
 
 -- Limits 950 and 1,050, not frozen; interest bounds 900 and 1,100; centre 1,000; market bounds 900 and 1,100, 800 and 1,200, 700 and
 -- 1,300; an up hold from 10, due at 70, and no down hold; the bid 1,046 and no ask; two shifts left, the clock at 69.
@@ -50,10 +47,10 @@ sample-report =
     }
 
 pub report-figure : report-said (report 7 sample-state) ≡ sample-report
-unfolding factor interest bound listed line-of event-number report-said market-bounds interest-bounds hold-report line-report report
+unfolding word header-of opening-state factor interest bound listed line-of event-number report-said market-bounds interest-bounds hold-report line-report report
 report-figure = refl
 
 -- an id that no line has
 pub report-refused : report-said (report 8 sample-state) ≡ record { number = 13; values = [] }
-unfolding factor interest bound listed line-of event-number report-said market-bounds interest-bounds hold-report line-report report
+unfolding word header-of opening-state factor interest bound listed line-of event-number report-said market-bounds interest-bounds hold-report line-report report
 report-refused = refl
