@@ -12,7 +12,7 @@ use Rattle.rows.proofs.Buffer.{numbers-long}
 use Rattle.corridor.specs.declared.Session.{Session}
 use Rattle.feeding.specs.declared.Fed.{Fed}
 use Rattle.corridor.specs.View.{view, Valid}
-use Rattle.closing.specs.Closing.{closing-numbers, closed, closed-into}
+use Rattle.closing.specs.Closing.{closing-needs, closing-numbers, closed, closed-into}
 use Rattle.feeding.specs.Feeding.{feed-needs, fed}
 use Rattle.corridor.proofs.Views.{view-length}
 use Rattle.feeding.proofs.Chunks.{fed-is, told-fits}
@@ -31,10 +31,10 @@ closing-long : (s : Session) → Valid s → length (closing-numbers s) ≡ 6 * 
 closing-long s v =
     numbers-long (map closing-row (view s .lines)) ∙ ap (λ (n : ℕ). 6 * n) (length-map (view s .lines) closing-row ∙ view-length v)
 
-pub closing-few : (s : Session) → Valid s → length (closing-numbers s) ≤ 192
+pub closing-few : (s : Session) → Valid s → length (closing-numbers s) ≤ closing-needs
 closing-few s v = omega (arith, closing-long s v, v .few)
 
-module _ (s : Session) (v : Valid s) (out : List ℤ) (fits : 192 ≤ length out) where
+module _ (s : Session) (v : Valid s) (out : List ℤ) (fits : closing-needs ≤ length out) where
   enough : 6 * s .count ≤ length out
   enough = omega (arith, v .few)
 

@@ -7,7 +7,7 @@ ghost use lib.ListN.{length};
 ghost use Rattle.rows.specs.Buffer.{written};
 ghost use Rattle.corridor.specs.View.{Valid};
 ghost use Rattle.feeding.specs.Feeding.{feed-needs, told};
-ghost use Rattle.closing.specs.Closing.{closing-numbers};
+ghost use Rattle.closing.specs.Closing.{closing-needs, closing-numbers};
 ghost use Rattle.counting.specs.Counted.{number-in, counted};
 use corridor::Session;
 use rows::RowsAnswer;
@@ -46,7 +46,7 @@ pub fn fed(s: Session, chunk: &[u8], numbers: &mut [i64]) -> Counted
 
 // The closing rows, for which the room is there; the answer is how many numbers they have.
 pub fn closed(s: Session, numbers: &mut [i64]) -> usize
-    requires { ⌜ Valid s × (192 ≤ length (now numbers)) ⌝ }
+    requires { ⌜ Valid s × (closing-needs ≤ length (now numbers)) ⌝ }
     ensures { λ r. ⌜ r ≡ length (closing-numbers s) ⌝ }
     ensures { λ _. ⌜ now (numbers .exit) ≡ written (now (numbers .entry)) 0 (closing-numbers s) ⌝ }
 {

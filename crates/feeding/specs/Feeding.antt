@@ -7,6 +7,7 @@ use lib.Dec.{ltb}
 use lib.IntN.{ℤ}
 use lib.ListN.{length}
 use Rattle.method.specs.words.Types.{State}
+use Rattle.method.specs.words.Ranges.{most-shifts}
 use Rattle.method.specs.told.Rows.{rows-of-all, numbers-of}
 use Rattle.method.specs.told.Program.{events-of}
 use Rattle.method.specs.computed.Search.{run, finally}
@@ -17,9 +18,9 @@ use Rattle.feeding.specs.declared.Fed.{Fed}
 use Rattle.corridor.specs.View.{view, put, Valid}
 use Rattle.corridor.specs.Engine.{one-by-one, left-after}
 
--- the room for the answers to so many bytes: a session makes 16 shifts at most
+-- the room for the answers to so many bytes: beside a row for each event one for each shift that a session may make
 abbrev pub feed-needs : ℕ → ℕ
-feed-needs size = needed size 16
+feed-needs size = needed size most-shifts
 
 -- all answers in numbers
 abbrev pub answers-told : State → List (List ℕ) → List ℤ

@@ -13,6 +13,8 @@ use rows::RowsAnswer;
 use verdict::Change;
 use verdict::Verdict;
 
+const MOST_SHIFTS: usize = method::MOST_SHIFTS as usize;
+
 // The answer to a buffer of events, and beside it the session.
 pub struct Fed {
     pub answer: RowsAnswer,
@@ -56,7 +58,7 @@ pub fn feed(mut s: Session, events: &[u8], out: &mut [i64]) -> Fed
     ensures { λ _. ⌜ now (out .exit) ≡ fed-into s (now (out .entry)) (now (events .entry)) ⌝ }
 {
     let size = events.len();
-    let needed = rows::needed(size, 16);
+    let needed = rows::needed(size, MOST_SHIFTS);
     if out.len() < needed {
         return Fed {
             answer: RowsAnswer::NoRoom(needed),

@@ -6,6 +6,7 @@ ghost use lib.ListN.{length};
 ghost use Rattle.method.specs.declared.Row.the-variants as RowOf;
 ghost use Rattle.method.specs.told.Text.{line-text};
 ghost use Rattle.corridor.specs.View.{Valid};
+ghost use Rattle.closing.specs.Closing.{closing-needs};
 ghost use Rattle.feeding.specs.Feeding.{feed-needs, left-by};
 ghost use Rattle.session.specs.Printing.{told-text, closing-text, Begins};
 use corridor::Session;
@@ -13,13 +14,13 @@ use method::Row;
 use method::TableReason;
 
 // The session that a chunk leaves, and how many bytes its answers have.
-pub(crate) struct Answered {
+pub(crate) struct ChunkText {
     pub(crate) session: Session,
     pub(crate) size: usize,
 }
 
 // A chunk of events.
-pub(crate) fn chunk(s: Session, events: &[u8], numbers: &mut [i64], buffer: &mut [u8]) -> Answered
+pub(crate) fn chunk(s: Session, events: &[u8], numbers: &mut [i64], buffer: &mut [u8]) -> ChunkText
     requires { ⌜ Valid s × (feed-needs (length (now events)) ≤ length (now numbers)) × (20 * feed-needs (length (now events)) ≤ length (now buffer)) ⌝ }
     ensures { λ r. ⌜ r .session ≡ left-by s (now (events .entry)) ⌝ }
     ensures { λ r. ⌜ Begins (now (buffer .exit)) (r .size) (told-text s (now (events .entry))) ⌝ }
@@ -28,7 +29,7 @@ pub(crate) fn chunk(s: Session, events: &[u8], numbers: &mut [i64], buffer: &mut
     let count = a.count;
     let size = text::lines(&numbers[..count], buffer);
     let session = a.session;
-    Answered {
+    ChunkText {
         session: session,
         size: size,
     }
@@ -36,7 +37,7 @@ pub(crate) fn chunk(s: Session, events: &[u8], numbers: &mut [i64], buffer: &mut
 
 // The closing lines.
 pub(crate) fn closing(s: Session, numbers: &mut [i64], buffer: &mut [u8]) -> usize
-    requires { ⌜ Valid s × (192 ≤ length (now numbers)) × (3840 ≤ length (now buffer)) ⌝ }
+    requires { ⌜ Valid s × (closing-needs ≤ length (now numbers)) × (20 * closing-needs ≤ length (now buffer)) ⌝ }
     ensures { λ r. ⌜ Begins (now (buffer .exit)) r (closing-text s) ⌝ }
 {
     let count = counting::closed(s, numbers);

@@ -15,6 +15,8 @@ use method::Row;
 use method::ShiftLine;
 use rows::RowsAnswer;
 
+const MOST_SHIFTS: usize = method::MOST_SHIFTS as usize;
+
 // The rows of one answer, from `at` on; the result is the place after them.
 fn told(
     out: &mut [i64],
@@ -44,7 +46,7 @@ pub fn feed(first: Session, events: &[u8], out: &mut [i64]) -> Fed
     ensures { λ _. ⌜ now (out .exit) ≡ fed-into first (now (out .entry)) (now (events .entry)) ⌝ }
 {
     let size = events.len();
-    let needed = rows::needed(size, 16);
+    let needed = rows::needed(size, MOST_SHIFTS);
     if out.len() < needed {
         return Fed {
             answer: RowsAnswer::NoRoom(needed),

@@ -26,7 +26,7 @@ use Rattle.corridor.specs.declared.OpenReply.{OpenReply}
 use Rattle.rows.specs.declared.RowsAnswer.{RowsAnswer}
 use Rattle.corridor.specs.View.{view, no-session, opened-session, Valid}
 use Rattle.feeding.specs.Feeding.{answers-told, told, left-by}
-use Rattle.closing.specs.Closing.{closing-numbers}
+use Rattle.closing.specs.Closing.{closing-needs, closing-numbers}
 use Rattle.corridor.proofs.Views.{view-put}
 use Rattle.corridor.proofs.Theorems.{valid-opened}
 use Rattle.feeding.proofs.Chunks.{told-fits, valid-left}
@@ -126,7 +126,7 @@ module _ (table events : List ℕ) (out : List ℤ) (enough : run-needs (length 
       pub told-last : Valid (a .session)
       told-last = rw ea last-valid
 
-      pub at-inside : at + 192 ≤ length out
+      pub at-inside : at + closing-needs ≤ length out
       at-inside = omega (arith, at-is, told-fits first events first-valid)
 
       -- the part that is lent for the closing rows is all that is left
@@ -136,7 +136,7 @@ module _ (table events : List ℕ) (out : List ℤ) (enough : run-needs (length 
       part-is : part ≡ drop at now
       part-is = take-all (length now - at) (drop at now) (omega (arith, length-drop at now))
 
-      pub part-long : 192 ≤ length part
+      pub part-long : closing-needs ≤ length part
       part-long = rw part-is (omega (arith, length-drop at now, told-long, at-inside))
 
       none-after : drop (length now - at) (drop at now) ≡ []

@@ -1,10 +1,11 @@
 -- A whole session in a lent buffer: the method's rows of a table and its events.
 use mathlib.Core.Bool.{cond}
 use mathlib.Core.List.{List}
-use Prim.Native.Nat.{ℕ}
+use Prim.Native.Nat.{ℕ, _+_}
 use lib.Dec.{ltb}
 use lib.IntN.{ℤ}
 use lib.ListN.{length}
+use Rattle.method.specs.words.Ranges.{most-contracts, most-shifts}
 use Rattle.method.specs.told.Rows.{numbers-of}
 use Rattle.method.specs.told.Program.{events-of}
 use Rattle.method.specs.computed.Table.{opening}
@@ -12,9 +13,9 @@ use Rattle.method.specs.computed.Program.{rows-after}
 use Rattle.rows.specs.Buffer.{written, needed}
 use Rattle.rows.specs.declared.RowsAnswer.{RowsAnswer}
 
--- the room for the rows of a whole session: 16 shifts and 32 contracts at most
+-- the room for the rows of a whole session: as many shifts and contracts as there may be
 abbrev pub run-needs : ℕ → ℕ
-run-needs size = needed size 48
+run-needs size = needed size (most-shifts + most-contracts)
 
 -- all rows in numbers
 abbrev pub rows-told : List ℕ → List ℕ → List ℤ

@@ -8,13 +8,16 @@ use method::Row;
 use method::TableAnswer;
 use rows::RowsAnswer;
 
+// A row for each shift that may be made, and for each contract that there may be.
+const MOST_ROWS: usize = (method::MOST_SHIFTS + method::MOST_CONTRACTS) as usize;
+
 // The rows of the whole: the shifts and the refused events in turn, and a closing row for each contract; or the one row of a refused
 // table. The room is worked out first: where it is not there, nothing is done.
 pub fn run(table: &[u8], events: &[u8], out: &mut [i64]) -> RowsAnswer
     ensures { λ r. ⌜ r ≡ ran (length (now (out .entry))) (now (table .entry)) (now (events .entry)) ⌝ }
     ensures { λ _. ⌜ now (out .exit) ≡ ran-into (now (out .entry)) (now (table .entry)) (now (events .entry)) ⌝ }
 {
-    let needed = rows::needed(events.len(), 48);
+    let needed = rows::needed(events.len(), MOST_ROWS);
     if out.len() < needed {
         return RowsAnswer::NoRoom(needed);
     }

@@ -5,6 +5,7 @@ use mathlib.Core.Path.{_≡_}
 use Prim.Native.Nat.{_+_, _≤_}
 use native.Mathlib.Omega.{arith}
 use lib.ListN.{length}
+use Rattle.closing.specs.Closing.{closing-needs}
 use Rattle.sundewcup.specs.Running.{run-needs}
 use Rattle.sundewcup.proofs.Whole.{none-ran, none-into, refused-ran, refused-into, first-valid, told-long, told-last, at-inside, part-long, opened-small, opened-ran, opened-into}
 use Rattle.sundewcup.proofs.run.Statement.{statement}
@@ -78,7 +79,7 @@ same-room c =
     told-long (now (s .args .table)) (now (s .args .events)) (now (s .args .out)) (enough o) _ (o .«open» .ensures)
     (c .before .before .before .enum-told .given .1) (a .result) (a .ensures .0) (a .ensures .1)
 
-place-inside : (c : tie.After-fed) → c .fed .result .count + 192 ≤ length (now (start (opening c) .args .out))
+place-inside : (c : tie.After-fed) → c .fed .result .count + closing-needs ≤ length (now (start (opening c) .args .out))
 place-inside c =
     let o = opening c in
     let s = start o in
