@@ -33,7 +33,7 @@ fn stands(h: Hold) -> bool
 }
 
 // Where no shift is left no hold stands, and no price is looked at.
-fn called_for(side: Side, near: Millionths, left: u32, l: Line) -> bool
+fn may_hold(side: Side, near: Millionths, left: u32, l: Line) -> bool
     requires { ⌜ Pressed near l ⌝ }
     ensures { λ r. ⌜ r ≡ (ltb 0 left && presses side near l) ⌝ }
 {
@@ -48,7 +48,7 @@ fn exact_on(side: Side, near: Millionths, left: u32, l: Line) -> bool
     ensures { λ r. ⌜ Decides r (standing (hold-of side (l .holds)) ≡ (ltb 0 left && presses side near l)) ⌝ }
 {
     let h = l.holds;
-    let pressed = called_for(side, near, left, l);
+    let pressed = may_hold(side, near, left, l);
     if stands(hold_of(side, h)) {
         return pressed;
     }

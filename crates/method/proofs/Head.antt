@@ -16,7 +16,7 @@ pub same-table : (s : State) → SameTable s s
 same-table s = record { end = refl; hold = refl; near = refl }
 
 pub table-on : {s m n : State} → SameTable s m → SameTable m n → SameTable s n
-table-on p q = record { end = q .end ∙ p .end; hold = q .hold ∙ p .hold; near = q .near ∙ p .near }
+table-on p q = record { end = cc; hold = cc; near = cc }
 
 -- other lines, shifts left and clock leave it
 pub with-lines-kept : (s : State) (ls : List Line) (left : ℕ) (clock : Seconds) → SameTable s (with-lines s ls left clock)

@@ -13,7 +13,7 @@ use Rattle.method.specs.words.Types.{Side, Up, Down, Seconds, Millionths
 use Rattle.method.specs.words.Ranges.{longest-session, most-shifts, largest-price}
 use Rattle.method.specs.words.Bounds.{market-bound, factor, interest, bound}
 use Rattle.method.specs.computed.Types.{Watch, Quote}
-use Rattle.method.specs.computed.Judge.{judged, called-for, judge, watch-of, judge-line}
+use Rattle.method.specs.computed.Judge.{judged, may-hold, judge, watch-of, judge-line}
 use Rattle.method.specs.computed.Shift.{toward, moved, ended, moved-line, shift-line}
 use Rattle.method.specs.computed.Event.{quoted-line}
 use Rattle.method.specs.computed.Rooms.{largest-half-move, reach, largest-factor, largest-market-bound, largest-bound, FactorsIn, LineIn, MarketRoom, PriceIn, HoldIn, HoldsIn, Room}
@@ -119,8 +119,8 @@ judge-in : (w : Watch) (near : Millionths) (left : ℕ) (now : Seconds) (k : Lim
 unfolding judge
 judge-in w near left now k b h e i =
     record {
-      up = judged-in now (called-for Up w near left k b) (h .up) e (i .up);
-      down = judged-in now (called-for Down w near left k b) (h .down) e (i .down);
+      up = judged-in now (may-hold Up w near left k b) (h .up) e (i .up);
+      down = judged-in now (may-hold Down w near left k b) (h .down) e (i .down);
     }
 
 room-judged : (near : Millionths) (left : ℕ) (now : Seconds) {n : ℕ} {l : Line} → now .0 ≤ longest-session → Room n l → Room n (judge-line near left now l)
