@@ -1,5 +1,5 @@
 -- The tests together say what every session has. Assumes nothing.
-use mathlib.Core.Path.{_≡_, subst, _∙_}
+use mathlib.Core.Path.{_≡_, _∙_}
 use mathlib.Core.List.{List}
 use Prim.Native.Nat.{ℕ}
 use native.Mathlib.Omega.{arith}
@@ -27,10 +27,6 @@ full-in rows h = length-map (take 32 rows) line-in ∙ length-take-le 32 rows (o
 -- what is decided of a line
 abbrev pub Fit : Millionths → ℕ → ℕ → Line → Type 0
 Fit near left most l = Room most l × Exact near left l
-
-pub carried : {near near′ : Millionths} {left left′ most most′ : ℕ} {l l′ : Line} → near ≡ near′ → left ≡ left′ → most ≡ most′ → l ≡ l′ → Fit near left most l
-    → Fit near′ left′ most′ l′
-carried e f m g p = subst (λ (z : Type 0). z) (λ i. Fit (e i) (f i) (m i) (g i)) p
 
 module _ {s : Session} where
   pub valid-so : length (s .lines) ≡ 32 → BesideIn s → LinesIn s → Distinct (session-ids (view s)) × (next-due (s .clock) (view s) ≡ Nothing) → Valid s

@@ -13,21 +13,13 @@ ghost use Rattle.host_intact.specs.Tests.{BesideIn, LinesIn};
 use host_row::reading;
 use method::Found;
 use method::Holds;
-use numbers::Millionths;
-use numbers::Seconds;
 
 fn beside(session: &[[u64; 21]; 33]) -> bool
     ensures { λ r. ⌜ Decides r (BesideIn (session-in (now (session .entry)))) ⌝ }
 {
-    let head = session[32];
-    host_head::in_range(
-        head[0] as usize,
-        Seconds(reading::word(head[1])),
-        Seconds(reading::word(head[2])),
-        Seconds(reading::word(head[3])),
-        reading::word(head[4]),
-        Millionths(reading::word(head[5])),
-    )
+    let top = session[32];
+    let h = reading::head(top);
+    host_head::in_range(h.count, h.clock, h.end, h.hold, h.left, h.near)
 }
 
 fn lines(session: &[[u64; 21]; 33]) -> bool
@@ -35,15 +27,14 @@ fn lines(session: &[[u64; 21]; 33]) -> bool
     ensures { λ r. ⌜ Decides r (LinesIn (session-in (now (session .entry)))) ⌝ }
 {
     host_memory::rows(session);
-    let head = session[32];
-    let n = head[0] as usize;
-    let left = reading::word(head[4]);
-    let near = Millionths(reading::word(head[5]));
+    let top = session[32];
+    let h = reading::head(top);
+    let n = h.count;
     let mut i: usize = 0;
     while i < n {
         let row = session[i];
         let l = reading::line(row);
-        if !host_line::line(near, left, left, l) {
+        if !host_line::line(h.near, h.left, h.left, l) {
             return false;
         }
         i = i + 1;
@@ -58,23 +49,21 @@ fn together(session: &[[u64; 21]; 33]) -> bool
         × (next-due (session-in (now (session .entry)) .clock) (view (session-in (now (session .entry)))) ≡ Nothing)) ⌝ }
 {
     host_memory::rows(session);
-    let head = session[32];
-    let n = head[0] as usize;
-    let clock = Seconds(reading::word(head[1]));
-    let end = Seconds(reading::word(head[2]));
-    let wait = Seconds(reading::word(head[3]));
+    let top = session[32];
+    let h = reading::head(top);
+    let n = h.count;
     let mut ids: [u32; 32] = [0; 32];
     let mut best = Found::Nothing;
     for i in 0..n {
         ids[i] = reading::word(session[i][0]);
         let up = reading::hold(session[i][17], session[i][18]);
         let down = reading::hold(session[i][19], session[i][20]);
-        best = due::passed(wait, i, Holds { up: up, down: down }, best);
+        best = due::passed(h.hold, i, Holds { up: up, down: down }, best);
     }
     if !host_head::distinct(&ids[..n]) {
         return false;
     }
-    match due::in_time(clock, end, reading::word(head[4]), best) {
+    match due::in_time(h.clock, h.end, h.left, best) {
         Found::Nothing => true,
         Found::At(_) => false,
     }

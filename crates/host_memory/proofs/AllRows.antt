@@ -5,10 +5,10 @@ use Prim.Native.Nat.{ℕ, _+_, _<_}
 use native.Mathlib.Numerals.{add-one}
 use native.Mathlib.Omega.{arith}
 use lib.ListN.{length, getD, set, take}
-use lib.Seq.{take-suc, take-suc-set, take-set-le, take-all, getD-set-same}
-use Rattle.host_row.specs.Packed.{at, word-in, line-in}
-use Rattle.host_memory.specs.Names.{Line, Session}
-use Rattle.host_memory.specs.Memory.{no-row, head-of, session-of, headed, session-in}
+use lib.Seq.{take-suc, take-suc-set, take-all}
+use Rattle.host_row.specs.Packed.{line-in}
+use Rattle.host_memory.specs.Names.{Line}
+use Rattle.host_memory.specs.Memory.{session-in}
 
 -- ---- a list of images, one after another
 module _ {A B : Type 0} (f : A → B) (xs : List A) (ys : List B) (i : ℕ) (h : i < length xs) (g : i < length ys) where
@@ -26,34 +26,7 @@ module _ {A B : Type 0} (f : A → B) (xs : List A) (ys : List B) (i : ℕ) (h :
       (ap (map f) (take-suc-set xs i x h) ∙ map-append f (take i xs) (x ∷ []) ∙ ap (λ (zs : List B). zs ++ (f x ∷ [])) p
       ∙ ap (λ (y : B). take i ys ++ (y ∷ [])) e ∙ sym (take-suc ys i d g))
 
--- ---- a session is put together
--- the lines of all 32 rows
-pub all-lines : (rows : List (List ℕ)) (ls : List Line) (i : ℕ) → i ≡ 32 → length ls ≡ 32 → take i ls ≡ map line-in (take i rows) → ls ≡ map line-in (take 32 rows)
-all-lines rows ls i e n p = sym (take-all 32 ls (omega arith)) ∙ ap (λ (k : ℕ). take k ls) (sym e) ∙ p ∙ ap (λ (k : ℕ). map line-in (take k rows)) e
-
--- what the last row says
-pub record Head (row : List ℕ) (s : Session) : Type 0 where
-  pub count : at row 0 ≡ s .count
-  pub clock : word-in (at row 1) ≡ s .clock .0
-  pub end : word-in (at row 2) ≡ s .end .0
-  pub hold : word-in (at row 3) ≡ s .hold .0
-  pub left : word-in (at row 4) ≡ s .left
-  pub near : word-in (at row 5) ≡ s .near .0
-
-pub stored : (rows : List (List ℕ)) (s : Session) (row : List ℕ) (i : ℕ) → length rows ≡ 33 → length (s .lines) ≡ 32 → i ≡ 32
-    → map line-in (take i rows) ≡ take i (s .lines) → Head row s → session-in (set rows 32 row) ≡ s
+-- ---- the lines of all 32 rows
+pub all-lines : (rows : List (List ℕ)) (ls : List Line) (i : ℕ) → i ≡ 32 → length ls ≡ 32 → take i ls ≡ map line-in (take i rows) → ls ≡ session-in rows .lines
 unfolding session-in
-stored rows s row i m n e p h =
-    ap (λ (ls : List Line). headed ls top) lines-are ∙ ap (headed (s .lines)) last-is
-    ∙ (λ j. session-of (s .lines) (h .count j) (h .clock j) (h .end j) (h .hold j) (h .left j) (h .near j))
-  where
-    top : List ℕ
-    top = head-of (set rows 32 row)
-
-    last-is : top ≡ row
-    last-is = getD-set-same rows 32 row no-row (omega arith)
-
-    lines-are : map line-in (take 32 (set rows 32 row)) ≡ s .lines
-    lines-are =
-        ap (map line-in) (take-set-le 32 rows 32 row (omega arith)) ∙ ap (λ (k : ℕ). map line-in (take k rows)) (sym e) ∙ p
-        ∙ ap (λ (k : ℕ). take k (s .lines)) e ∙ take-all 32 (s .lines) (omega arith)
+all-lines rows ls i e n p = sym (take-all 32 ls (omega arith)) ∙ ap (λ (k : ℕ). take k ls) (sym e) ∙ p ∙ ap (λ (k : ℕ). map line-in (take k rows)) e

@@ -1,41 +1,20 @@
--- One place of a session in memory: what is read there, a line that is written, and the clock that is set. Assumes nothing.
-use mathlib.Core.Path.{_≡_, refl, ap, _∙_}
+-- One place of a session in memory: the head or a line that is read there, and one that is written. Assumes nothing.
+use mathlib.Core.Path.{_≡_, refl, sym, ap, _∙_}
 use mathlib.Core.List.{List, [], _∷_, map}
 use Prim.Native.Nat.{ℕ, zero, suc, _<_}
 use native.Mathlib.Omega.{arith}
 use lib.ListN.{length, getD, set, take, List·getD-map}
 use lib.Seq.{getD-take, take-set-le, take-set-lt, getD-set-same, getD-set-other}
-use Rattle.method.specs.words.Types.{blank, seconds, millionths}
-use Rattle.corridor.specs.View.{moved-on, with-line}
-use Rattle.host_row.specs.Packed.{at, word-in, hold-in, line-in}
-use Rattle.host_memory.specs.Names.{Seconds, Line}
-use Rattle.host_memory.specs.Memory.{no-row, head-of, session-of, headed, session-in}
+use Rattle.method.specs.words.Types.{blank}
+use Rattle.corridor.specs.View.{with-line}
+use Rattle.host_row.specs.Packed.{at, word-in, hold-in, line-in, head-in}
+use Rattle.host_memory.specs.Names.{Line, Head}
+use Rattle.host_memory.specs.Memory.{no-row, head-of, session-of, session-in}
 
--- ---- beside the lines
-pub count-is : (rows : List (List ℕ)) → at (head-of rows) 0 ≡ session-in rows .count
+-- ---- the head is read
+pub head-is : (rows : List (List ℕ)) {h : Head} → h ≡ head-in (head-of rows) → session-in rows ≡ session-of (session-in rows .lines) h
 unfolding session-in
-count-is rows = refl
-
-module _ (rows : List (List ℕ)) where
-  pub clock-is : session-in rows .clock ≡ seconds (word-in (at (head-of rows) 1))
-  unfolding session-in
-  clock-is = refl
-
-  pub end-is : session-in rows .end ≡ seconds (word-in (at (head-of rows) 2))
-  unfolding session-in
-  end-is = refl
-
-  pub hold-is : session-in rows .hold ≡ seconds (word-in (at (head-of rows) 3))
-  unfolding session-in
-  hold-is = refl
-
-  pub left-is : session-in rows .left ≡ word-in (at (head-of rows) 4)
-  unfolding session-in
-  left-is = refl
-
-  pub near-is : session-in rows .near ≡ millionths (word-in (at (head-of rows) 5))
-  unfolding session-in
-  near-is = refl
+head-is rows e = ap (session-of (map line-in (take 32 rows))) (sym e)
 
 -- ---- a line is read
 -- what is read within a list does not hang on what would stand past its end
@@ -76,19 +55,16 @@ map-set f (y ∷ xs) (suc i) x = ap (λ (zs : List _). f y ∷ zs) (map-set f xs
 pub line-stored : (rows : List (List ℕ)) (p : ℕ) (row : List ℕ) (m : Line) → p < 32 → line-in row ≡ m → session-in (set rows p row) ≡ with-line (session-in rows) p m
 unfolding session-in
 line-stored rows p row m h e =
-    ap (λ (ls : List Line). headed ls (head-of (set rows p row))) (ap (map line-in) (take-set-lt 32 rows p row h) ∙ map-set line-in (take 32 rows) p row)
-    ∙ ap (λ (l : Line). headed (set (map line-in (take 32 rows)) p l) (head-of (set rows p row))) e
-    ∙ ap (headed (set (map line-in (take 32 rows)) p m)) (getD-set-other rows p 32 row no-row other)
+    ap (λ (ls : List Line). session-of ls (head-in (head-of (set rows p row)))) (ap (map line-in) (take-set-lt 32 rows p row h) ∙ map-set line-in (take 32 rows) p row)
+    ∙ ap (λ (l : Line). session-of (set (map line-in (take 32 rows)) p l) (head-in (head-of (set rows p row)))) e
+    ∙ ap (λ (r : List ℕ). session-of (set (map line-in (take 32 rows)) p m) (head-in r)) (getD-set-other rows p 32 row no-row other)
   where
     other : 32 ≡ p → ⊥
     other q = omega arith
 
--- ---- the clock is set
-pub clock-stored : (rows : List (List ℕ)) (row : List ℕ) (t : Seconds) → length rows ≡ 33 → at row 0 ≡ at (head-of rows) 0 → word-in (at row 1) ≡ t .0
-    → at row 2 ≡ at (head-of rows) 2 → at row 3 ≡ at (head-of rows) 3 → at row 4 ≡ at (head-of rows) 4 → at row 5 ≡ at (head-of rows) 5
-    → session-in (set rows 32 row) ≡ moved-on (session-in rows) (session-in rows .lines) t
+-- ---- the head is written
+pub head-stored : (rows : List (List ℕ)) (row : List ℕ) {h : Head} → length rows ≡ 33 → head-in row ≡ h → session-in (set rows 32 row) ≡ session-of (session-in rows .lines) h
 unfolding session-in
-clock-stored rows row t long e₀ e₁ e₂ e₃ e₄ e₅ =
-    ap (λ (ls : List Line). headed ls (head-of (set rows 32 row))) (ap (map line-in) (take-set-le 32 rows 32 row (omega arith)))
-    ∙ ap (headed (map line-in (take 32 rows))) (getD-set-same rows 32 row no-row (omega arith))
-    ∙ (λ j. session-of (map line-in (take 32 rows)) (e₀ j) (e₁ j) (word-in (e₂ j)) (word-in (e₃ j)) (word-in (e₄ j)) (word-in (e₅ j)))
+head-stored rows row long e =
+    ap (λ (ls : List Line). session-of ls (head-in (head-of (set rows 32 row)))) (ap (map line-in) (take-set-le 32 rows 32 row (omega arith)))
+    ∙ ap (session-of (map line-in (take 32 rows))) (ap head-in (getD-set-same rows 32 row no-row (omega arith)) ∙ e)

@@ -1,4 +1,4 @@
--- The data of `numbers`, `method` and `corridor` that this crate names.
-pub use Rattle.numbers.specs.declared.Seconds.{Seconds}
+-- The data of `method`, `host_row` and `corridor` that this crate names.
 pub use Rattle.method.specs.declared.Line.{Line}
+pub use Rattle.host_row.specs.declared.Head.{Head}
 pub use Rattle.corridor.specs.declared.Session.{Session}

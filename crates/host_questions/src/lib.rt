@@ -20,7 +20,6 @@ use method::Line;
 use method::PlaceAnswer;
 use method::Report;
 use method::Row;
-use numbers::Seconds;
 use numbers::Steps;
 use questions::Sought;
 
@@ -29,8 +28,9 @@ fn found(session: &[[u64; 21]; 33], id: u32) -> Sought
     requires { ⌜ Valid (session-in (now session)) ⌝ }
     ensures { λ r. ⌜ r ≡ sought id (view (session-in (now (session .entry)))) ⌝ }
 {
-    let head = session[32];
-    let n = head[0] as usize;
+    let top = session[32];
+    let h = reading::head(top);
+    let n = h.count;
     let mut i: usize = 0;
     while i < n {
         let row = session[i];
@@ -93,10 +93,9 @@ fn reported(session: &[[u64; 21]; 33], l: Line) -> Report
     ensures { λ r. ⌜ r ≡ line-report (session-in (now (session .entry)) .hold) (session-in (now (session .entry)) .left)
         (session-in (now (session .entry)) .clock) l ⌝ }
 {
-    let head = session[32];
-    let clock = Seconds(reading::word(head[1]));
-    let wait = Seconds(reading::word(head[3]));
-    line_answers::line_report(wait, reading::word(head[4]), clock, l)
+    let top = session[32];
+    let h = reading::head(top);
+    line_answers::line_report(h.hold, h.left, h.clock, l)
 }
 
 // All that stands on a line.

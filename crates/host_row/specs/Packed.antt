@@ -1,12 +1,12 @@
--- A line as a row of 21 numbers. Any numbers read as some line, so nothing is asked of a row.
+-- A line, or the head of a session, as a row of 21 numbers. Any numbers read as some line and as some head, so nothing is asked of a row.
 use mathlib.Core.Bool.{Bool, cond}
 use mathlib.Core.List.{List}
 use Prim.Native.Nat.{ℕ, _/_, _%_}
 use lib.Dec.{eqb, ltb}
 use lib.IntN.{ℤ, pos, negsuc}
 use lib.ListN.{getD}
-use Rattle.method.specs.words.Types.{steps, seconds, billionths}
-use Rattle.host_row.specs.Names.{Price, Absent, Given, Hold, Idle, Since, Line}
+use Rattle.method.specs.words.Types.{steps, millionths, seconds, billionths}
+use Rattle.host_row.specs.Names.{Price, Absent, Given, Hold, Idle, Since, Line, Head}
 
 -- ---- one number
 abbrev pub word-in : ℕ → ℕ
@@ -52,4 +52,16 @@ line-in r =
       limits = record { upper = steps (signed-in (at r 10)); lower = steps (signed-in (at r 11)); frozen = mark-in (at r 12) };
       book = record { bid = price-in (at r 13) (at r 14); ask = price-in (at r 15) (at r 16) };
       holds = record { up = hold-in (at r 17) (at r 18); down = hold-in (at r 19) (at r 20) };
+    }
+
+-- what a session has beside its lines, in the last row
+unfoldable pub head-in : List ℕ → Head
+head-in r =
+    record {
+      count = at r 0;
+      clock = seconds (word-in (at r 1));
+      end = seconds (word-in (at r 2));
+      hold = seconds (word-in (at r 3));
+      left = word-in (at r 4);
+      near = millionths (word-in (at r 5));
     }

@@ -1,8 +1,9 @@
-// What numbers say: a word, a price, a hold, and the line that a row has. Any numbers say something.
+// What numbers say: a word, a price, a hold, and the line or the head that a row has. Any numbers say something.
 
 ghost use mathlib.Core.Path.{_≡_};
 ghost use Rattle.method.specs.words.Types.{steps};
-ghost use Rattle.host_row.specs.Packed.{word-in, mark-in, signed-in, price-in, hold-in, line-in};
+ghost use Rattle.host_row.specs.Packed.{word-in, mark-in, signed-in, price-in, hold-in, line-in, head-in};
+use crate::Head;
 use method::Book;
 use method::Factors;
 use method::Hold;
@@ -13,6 +14,7 @@ use method::Market;
 use method::Price;
 use method::Terms;
 use numbers::Billionths;
+use numbers::Millionths;
 use numbers::Seconds;
 use numbers::Steps;
 
@@ -98,5 +100,19 @@ pub fn line(row: [u64; 21]) -> Line
         },
         book: Book { bid: bid, ask: ask },
         holds: Holds { up: up, down: down },
+    }
+}
+
+// The head that a row has.
+pub fn head(row: [u64; 21]) -> Head
+    ensures { λ r. ⌜ r ≡ head-in row ⌝ }
+{
+    Head {
+        count: row[0] as usize,
+        clock: Seconds(word(row[1])),
+        end: Seconds(word(row[2])),
+        hold: Seconds(word(row[3])),
+        left: word(row[4]),
+        near: Millionths(word(row[5])),
     }
 }

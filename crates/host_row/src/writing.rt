@@ -1,7 +1,8 @@
-// The numbers that say it: a row from which its line is read again. Which of several numbers stand for one thing, no contract says.
+// The numbers that say it: a row from which its line or its head is read again. Which of several numbers stand for one thing, no contract says.
 
 ghost use mathlib.Core.Path.{_≡_};
-ghost use Rattle.host_row.specs.Packed.{word-in, mark-in, signed-in, price-in, hold-in, line-in};
+ghost use Rattle.host_row.specs.Packed.{word-in, mark-in, signed-in, price-in, hold-in, line-in, head-in};
+use crate::Head;
 use method::Hold;
 use method::Line;
 use method::Price;
@@ -112,4 +113,18 @@ pub fn row(l: Line) -> [u64; 21]
         d.there,
         d.number,
     ]
+}
+
+// A row that has the head.
+pub fn head_row(h: Head) -> [u64; 21]
+    ensures { λ r. ⌜ head-in r ≡ h ⌝ }
+{
+    let mut row: [u64; 21] = [0; 21];
+    row[0] = h.count as u64;
+    row[1] = word_number(h.clock.0);
+    row[2] = word_number(h.end.0);
+    row[3] = word_number(h.hold.0);
+    row[4] = word_number(h.left);
+    row[5] = word_number(h.near.0);
+    row
 }

@@ -25,7 +25,6 @@ use method::Holds;
 use method::Quote;
 use method::Row;
 use method::TableAnswer;
-use numbers::Millionths;
 use numbers::Seconds;
 use verdict::Change;
 use verdict::Verdict;
@@ -97,20 +96,18 @@ fn looked(session: &[[u64; 21]; 33], e: Event) -> Seen
         (session-in (now (session .entry)) .end) (session-in (now (session .entry)) .clock) e ⌝ }
     ensures { λ r. ⌜ r .quiet ≡ quiet-until (view (session-in (now (session .entry)))) ⌝ }
 {
-    let head = session[32];
-    let n = head[0] as usize;
-    let clock = Seconds(reading::word(head[1]));
-    let end = Seconds(reading::word(head[2]));
-    let wait = Seconds(reading::word(head[3]));
+    let top = session[32];
+    let h = reading::head(top);
+    let n = h.count;
     let mut ids: [u32; 32] = [0; 32];
     let mut quiet = Seconds(4294967295);
     for i in 0..n {
         ids[i] = reading::word(session[i][0]);
         let up = reading::hold(session[i][17], session[i][18]);
         let down = reading::hold(session[i][19], session[i][20]);
-        quiet = due::until(quiet, wait, Holds { up: up, down: down });
+        quiet = due::until(quiet, h.hold, Holds { up: up, down: down });
     }
-    let verdict = verdict::screen(&ids[..n], 0, end, clock, e);
+    let verdict = verdict::screen(&ids[..n], 0, h.end, h.clock, e);
     Seen {
         verdict: verdict,
         quiet: quiet,
@@ -125,11 +122,11 @@ fn quoted(session: &mut [[u64; 21]; 33], place: usize, q: Quote)
         (quoted-line (session-in (now (session .entry)) .near) (session-in (now (session .entry)) .left) q
         (getD (session-in (now (session .entry)) .lines) place blank)) ⌝ }
 {
-    let head = session[32];
-    let near = Millionths(reading::word(head[5]));
+    let top = session[32];
+    let h = reading::head(top);
     let row = session[place];
     let l = reading::line(row);
-    let m = shifts::quoted_line(near, reading::word(head[4]), q, l);
+    let m = shifts::quoted_line(h.near, h.left, q, l);
     host_memory::with_line(session, place, m);
 }
 

@@ -1,14 +1,17 @@
 -- `host_memory::kept` meets its contract. Assumes nothing.
 use borrow.Author.Needs.{needs}
-use mathlib.Core.Path.{_≡_, refl, _∙_}
-use mathlib.Core.List.{map}
+use mathlib.Core.Path.{_≡_, refl, sym, ap, _∙_}
+use mathlib.Core.List.{List, map}
 use Prim.Native.Nat.{_-_, _≤_}
 use native.Mathlib.Omega.{arith}
 use lib.ListN.{length, take, length-set}
 use Rattle.numbers.proofs.Arrays.{full}
 use Rattle.method.specs.words.Types.{blank}
+use Rattle.corridor.specs.View.{moved-on}
 use Rattle.host_row.specs.Packed.{line-in}
-use Rattle.host_memory.proofs.AllRows.{store-turn, stored}
+use Rattle.host_memory.specs.Names.{Line}
+use Rattle.host_memory.proofs.AllRows.{store-turn, all-lines}
+use Rattle.host_memory.proofs.Places.{head-stored}
 use Rattle.host_memory.proofs.kept.Statement.{statement}
 use Rattle.host_memory.proofs.kept.Tie as tie
 
@@ -33,11 +36,11 @@ element-copy-out-l c = omega (arith, c .before .loop .inv .2)
 row-requires : tie.Need-row-requires Inv-loop μ-loop
 row-requires c κs = search needs
 
-mul-t9 : tie.Need-mul-t9 Inv-loop μ-loop
-mul-t9 c = omega arith
+mul-row : tie.Need-mul-row Inv-loop μ-loop
+mul-row c = omega arith
 
-element-set-from-memory : tie.Need-element-set-from-memory Inv-loop μ-loop
-element-set-from-memory c = omega arith
+element-set-from-row : tie.Need-element-set-from-row Inv-loop μ-loop
+element-set-from-row c = omega arith
 
 add-i : tie.Need-add-i Inv-loop μ-loop
 add-i c = omega arith
@@ -55,18 +58,18 @@ loop-again c =
       store-turn line-in (at .memory) (s .lines) (at .i) (omega (arith, at .inv .1)) (omega (arith, at .inv .2)) _ blank (c .row .ensures) (at .inv .3),
     )
 
-head-requires : tie.Need-head-requires Inv-loop μ-loop
-head-requires c κs = search needs
+head-row-requires : tie.Need-head-row-requires Inv-loop μ-loop
+head-row-requires c κs = search needs
 
-element-set-from-memory-2 : tie.Need-element-set-from-memory-2 Inv-loop μ-loop
-element-set-from-memory-2 c = search needs
+element-set-from-last : tie.Need-element-set-from-last Inv-loop μ-loop
+element-set-from-last c = search needs
 
 returns : tie.Need-returns Inv-loop μ-loop
 returns c =
-    let at = c .before .before .loop in
-    let h = c .head .ensures in
-    stored (at .memory) (c .before .before .before .before .before .args .t2) _ (at .i) (at .inv .1) (at .inv .2) (omega arith) (at .inv .3)
-    (record { count = h .0; clock = h .1; end = h .2; hold = h .3; left = h .4; near = h .5 })
+    let at = c .before .before .before .before .before .before .loop in
+    let s = c .before .before .before .before .before .before .before .before .before .args .t2 in
+    head-stored (at .memory) _ (at .inv .1) (c .head-row .ensures)
+    ∙ ap (λ (ls : List Line). moved-on s ls (s .clock)) (sym (all-lines (at .memory) (s .lines) (at .i) (omega arith) (at .inv .2) (sym (at .inv .3))))
 
 pub kept-spec : {M : Type 1} → statement M
 kept-spec =
@@ -79,11 +82,11 @@ kept-spec =
     mul-l
     element-copy-out-l
     row-requires
-    mul-t9
-    element-set-from-memory
+    mul-row
+    element-set-from-row
     add-i
     loop-less
     loop-again
-    head-requires
-    element-set-from-memory-2
+    head-row-requires
+    element-set-from-last
     returns)

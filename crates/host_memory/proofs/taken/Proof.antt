@@ -1,14 +1,16 @@
 -- `host_memory::taken` meets its contract. Assumes nothing.
 use borrow.Author.Needs.{needs}
-use mathlib.Core.Path.{_≡_, refl, _∙_}
-use mathlib.Core.List.{map}
+use mathlib.Core.Path.{_≡_, refl, sym, ap, _∙_}
+use mathlib.Core.List.{List, map}
 use Prim.Native.Nat.{_-_, _≤_}
 use native.Mathlib.Omega.{arith}
 use denote.Ref.{now}
 use lib.ListN.{length, take, length-set}
-use Rattle.host_row.specs.Packed.{at, line-in}
-use Rattle.host_memory.specs.Memory.{no-row, head-of, session-of, session-in}
+use Rattle.host_row.specs.Packed.{line-in}
+use Rattle.host_memory.specs.Names.{Line}
+use Rattle.host_memory.specs.Memory.{no-row, session-of}
 use Rattle.host_memory.proofs.AllRows.{gather-turn, all-lines}
+use Rattle.host_memory.proofs.Places.{head-is}
 use Rattle.host_memory.proofs.taken.Statement.{statement}
 use Rattle.host_memory.proofs.taken.Tie as tie
 
@@ -64,45 +66,16 @@ loop-again c =
 element-copy-out-last : tie.Need-element-copy-out-last Inv-loop μ-loop
 element-copy-out-last c = search needs
 
-array-read-t25 : tie.Need-array-read-t25 Inv-loop μ-loop
-array-read-t25 c = search needs
-
-array-read-word : tie.Need-array-read-word Inv-loop μ-loop
-array-read-word c = search needs
-
-word-requires : tie.Need-word-requires Inv-loop μ-loop
-word-requires c κs = search needs
-
-array-read-word-2 : tie.Need-array-read-word-2 Inv-loop μ-loop
-array-read-word-2 c = search needs
-
-word-requires-2 : tie.Need-word-requires-2 Inv-loop μ-loop
-word-requires-2 c κs = search needs
-
-array-read-word-3 : tie.Need-array-read-word-3 Inv-loop μ-loop
-array-read-word-3 c = search needs
-
-word-requires-3 : tie.Need-word-requires-3 Inv-loop μ-loop
-word-requires-3 c κs = search needs
-
-array-read-word-4 : tie.Need-array-read-word-4 Inv-loop μ-loop
-array-read-word-4 c = search needs
-
-word-requires-4 : tie.Need-word-requires-4 Inv-loop μ-loop
-word-requires-4 c κs = search needs
-
-array-read-word-5 : tie.Need-array-read-word-5 Inv-loop μ-loop
-array-read-word-5 c = search needs
-
-word-requires-5 : tie.Need-word-requires-5 Inv-loop μ-loop
-word-requires-5 c κs = search needs
+head-requires : tie.Need-head-requires Inv-loop μ-loop
+head-requires c κs = search needs
 
 returns : tie.Need-returns Inv-loop μ-loop
-unfolding session-in
 returns c =
-    let loop = c .before .before .before .before .before .before .before .loop in
-    let rows = now (c .before .before .before .before .before .before .before .before .before .before .before .args .memory) in
-    λ j. session-of (all-lines rows (loop .lines) (loop .i) (omega arith) (loop .inv .2) (loop .inv .3) j) (at (head-of rows) 0) (c .before .before .before .before .word .ensures j) (c .before .before .before .word2 .ensures j) (c .before .before .word3 .ensures j) (c .before .word4 .ensures j) (c .word5 .ensures j)
+    let h = c .before .before .before .before in
+    let loop = h .before .before .before .loop in
+    let rows = now (h .before .before .before .before .before .before .before .args .memory) in
+    ap (λ (ls : List Line). session-of ls (h .head .result)) (all-lines rows (loop .lines) (loop .i) (omega arith) (loop .inv .2) (loop .inv .3))
+    ∙ sym (head-is rows (h .head .ensures))
 
 pub taken-spec : {M : Type 1} → statement M
 taken-spec =
@@ -123,15 +96,5 @@ taken-spec =
     loop-less
     loop-again
     element-copy-out-last
-    array-read-t25
-    array-read-word
-    word-requires
-    array-read-word-2
-    word-requires-2
-    array-read-word-3
-    word-requires-3
-    array-read-word-4
-    word-requires-4
-    array-read-word-5
-    word-requires-5
+    head-requires
     returns)

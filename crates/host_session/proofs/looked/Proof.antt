@@ -5,9 +5,9 @@ use mathlib.Core.List.{List}
 use Prim.Native.Nat.{ℕ, _+_, _-_, _≤_, _<_}
 use native.Mathlib.Omega.{arith}
 use denote.Ref.{now}
-use lib.ListN.{set, take}
+use lib.ListN.{getD, set, take}
 use lib.Seq.{length-take-le}
-use Rattle.method.specs.words.Types.{seconds, session-ids}
+use Rattle.method.specs.words.Types.{blank, session-ids}
 use Rattle.method.specs.words.Ranges.{longest-hold}
 use Rattle.method.specs.computed.Rooms.{HoldsIn}
 use Rattle.method.specs.computed.Sound.{Distinct}
@@ -18,77 +18,109 @@ use Rattle.due.specs.Quiet.{until}
 use Rattle.corridor.proofs.Due.{row-passes}
 use Rattle.feeding.proofs.Quiet.{Until, until-turn, until-end}
 use Rattle.corridor.proofs.Gathered.{Gathered, gathered-none, gathered-turn, gathered-all}
-use Rattle.host_session.specs.Names.{Holds}
-use Rattle.host_memory.specs.Memory.{session-in}
-use Rattle.host_memory.proofs.Places.{count-is, clock-is, end-is, hold-is, id-at, holds-at}
+use Rattle.host_session.specs.Names.{Holds, Session}
+use Rattle.host_memory.specs.Memory.{session-of, session-in}
+use Rattle.host_memory.proofs.Places.{head-is, id-at, holds-at}
 use Rattle.host_session.proofs.looked.Statement.{statement}
 use Rattle.host_session.proofs.looked.Tie as tie
 
 abbrev Inv-loop : tie.InvT-loop
-Inv-loop session e n clock end wait ids₀ quiet₀ i₀ ids quiet i = (i ≤ session-in session .count) × Until (session-in session .hold) (session-in session .count) (session-in session .lines) i quiet × Gathered (session-in session .lines) i ids
+Inv-loop session e h n ids₀ quiet₀ i₀ ids quiet i =
+    (i ≤ session-in session .count) × Until (session-in session .hold) (session-in session .count) (session-in session .lines) i quiet
+    × Gathered (session-in session .lines) i ids
 
 abbrev μ-loop : tie.MeasureT-loop
-μ-loop session e n clock end wait ids₀ quiet₀ i₀ ids quiet i = session-in session .count - i
+μ-loop session e h n ids₀ quiet₀ i₀ ids quiet i = session-in session .count - i
 
-element-copy-out-head : tie.Need-element-copy-out-head Inv-loop μ-loop
-element-copy-out-head c = search needs
+-- ---- the start, and what is known there
+module _ (c : tie.At-loop Inv-loop μ-loop) where
+  abbrev start : tie.Start Inv-loop μ-loop
+  start = c .before .before .before
 
-array-read-n : tie.Need-array-read-n Inv-loop μ-loop
-array-read-n c = search needs
+  abbrev rows : List (List ℕ)
+  rows = now (start .args .session)
 
-array-read-word : tie.Need-array-read-word Inv-loop μ-loop
-array-read-word c = search needs
+  abbrev given : Session
+  given = session-in rows
 
-word-requires : tie.Need-word-requires Inv-loop μ-loop
-word-requires c κs = search needs
+  read : given ≡ session-of (given .lines) (c .before .head .result)
+  read = head-is rows (c .before .head .ensures)
 
-array-read-word-2 : tie.Need-array-read-word-2 Inv-loop μ-loop
-array-read-word-2 c = search needs
+  count-read : c .before .head .result .count ≡ given .count
+  count-read = λ j. sym read j .count
 
-word-requires-2 : tie.Need-word-requires-2 Inv-loop μ-loop
-word-requires-2 c κs = search needs
+-- the place i
+module _ (c : tie.In-loop Inv-loop μ-loop) where
+  below : c .before .loop .i < given (c .before) .count
+  below = omega (arith, count-read (c .before), c .loop-test .taken)
 
-array-read-word-3 : tie.Need-array-read-word-3 Inv-loop μ-loop
-array-read-word-3 c = search needs
+  within : c .before .loop .i < 32
+  within = omega (arith, below, start (c .before) .pre .few)
 
-word-requires-3 : tie.Need-word-requires-3 Inv-loop μ-loop
-word-requires-3 c κs = search needs
+-- the holds there
+module _ (c : tie.After-hold2 Inv-loop μ-loop) where
+  abbrev turn : tie.In-loop Inv-loop μ-loop
+  turn = c .before .before .before .before .before .before .before .before
+
+  abbrev at : tie.At-loop Inv-loop μ-loop
+  at = turn .before
+
+  holds-read : getD (given at .lines) (at .loop .i) blank .holds ≡ record { up = c .before .before .before .hold .result; down = c .hold2 .result }
+  holds-read =
+      holds-at (rows at) (at .loop .i) (start at .pre .full) (within turn)
+      ∙ sym (λ j. record { up = c .before .before .before .hold .ensures j; down = c .hold2 .ensures j })
+
+-- ---- where all lines are passed
+module _ (c : tie.After-loop Inv-loop μ-loop) where
+  all : c .before .loop .i ≡ given (c .before) .count
+  all = omega (arith, count-read (c .before), c .loop-test .left, c .before .loop .inv .0)
+
+  named : take (c .before .before .head .result .count) (c .before .loop .ids) ≡ session-ids (view (given (c .before)))
+  named =
+      ap (λ (n : ℕ). take n (c .before .loop .ids)) (count-read (c .before))
+      ∙ gathered-all (given (c .before) .lines) (given (c .before) .count) (c .before .loop .i) (c .before .loop .ids) all (c .before .loop .inv .2)
+
+element-copy-out-top : tie.Need-element-copy-out-top Inv-loop μ-loop
+element-copy-out-top c = search needs
+
+head-requires : tie.Need-head-requires Inv-loop μ-loop
+head-requires c κs = search needs
 
 loop-holds : tie.Need-loop-holds Inv-loop μ-loop
 loop-holds c = (omega arith, refl, gathered-none _)
 
 mul-word : tie.Need-mul-word Inv-loop μ-loop
-mul-word c = omega (arith, c .before .before .before .before .before .before .pre .few, count-is (now (c .before .before .before .before .before .before .args .session)))
+mul-word c = omega (arith, within c)
 
 index-1-word : tie.Need-index-1-word Inv-loop μ-loop
-index-1-word c = omega (arith, c .before .before .before .before .before .before .pre .few, count-is (now (c .before .before .before .before .before .before .args .session)))
+index-1-word c = omega (arith, within c)
 
 index-2-word : tie.Need-index-2-word Inv-loop μ-loop
 index-2-word c = search needs
 
-word-requires-4 : tie.Need-word-requires-4 Inv-loop μ-loop
-word-requires-4 c κs = search needs
+word-requires : tie.Need-word-requires Inv-loop μ-loop
+word-requires c κs = search needs
 
 mul-ids : tie.Need-mul-ids Inv-loop μ-loop
-mul-ids c = omega (arith, c .before .before .before .before .before .before .before .before .pre .few, count-is (now (c .before .before .before .before .before .before .before .before .args .session)))
+mul-ids c = omega (arith, within (c .before .before))
 
 array-write-ids : tie.Need-array-write-ids Inv-loop μ-loop
-array-write-ids c = omega (arith, c .before .before .before .before .before .before .before .before .pre .few, count-is (now (c .before .before .before .before .before .before .before .before .args .session)))
+array-write-ids c = omega (arith, within (c .before .before))
 
 mul-hold : tie.Need-mul-hold Inv-loop μ-loop
-mul-hold c = omega (arith, c .before .before .before .before .before .before .before .before .pre .few, count-is (now (c .before .before .before .before .before .before .before .before .args .session)))
+mul-hold c = omega (arith, within (c .before .before))
 
 index-1-hold : tie.Need-index-1-hold Inv-loop μ-loop
-index-1-hold c = omega (arith, c .before .before .before .before .before .before .before .before .pre .few, count-is (now (c .before .before .before .before .before .before .before .before .args .session)))
+index-1-hold c = omega (arith, within (c .before .before))
 
 index-2-hold : tie.Need-index-2-hold Inv-loop μ-loop
 index-2-hold c = search needs
 
 mul-hold-2 : tie.Need-mul-hold-2 Inv-loop μ-loop
-mul-hold-2 c = omega (arith, c .before .before .before .before .before .before .before .before .before .pre .few, count-is (now (c .before .before .before .before .before .before .before .before .before .args .session)))
+mul-hold-2 c = omega (arith, within (c .before .before .before))
 
 index-1-hold-2 : tie.Need-index-1-hold-2 Inv-loop μ-loop
-index-1-hold-2 c = omega (arith, c .before .before .before .before .before .before .before .before .before .pre .few, count-is (now (c .before .before .before .before .before .before .before .before .before .args .session)))
+index-1-hold-2 c = omega (arith, within (c .before .before .before))
 
 index-2-hold-2 : tie.Need-index-2-hold-2 Inv-loop μ-loop
 index-2-hold-2 c = search needs
@@ -97,19 +129,19 @@ hold-requires : tie.Need-hold-requires Inv-loop μ-loop
 hold-requires c κs = search needs
 
 mul-hold-3 : tie.Need-mul-hold-3 Inv-loop μ-loop
-mul-hold-3 c = omega (arith, c .before .before .before .before .before .before .before .before .before .before .before .pre .few, count-is (now (c .before .before .before .before .before .before .before .before .before .before .before .args .session)))
+mul-hold-3 c = omega (arith, within (c .before .before .before .before .before))
 
 index-1-hold-3 : tie.Need-index-1-hold-3 Inv-loop μ-loop
-index-1-hold-3 c = omega (arith, c .before .before .before .before .before .before .before .before .before .before .before .pre .few, count-is (now (c .before .before .before .before .before .before .before .before .before .before .before .args .session)))
+index-1-hold-3 c = omega (arith, within (c .before .before .before .before .before))
 
 index-2-hold-3 : tie.Need-index-2-hold-3 Inv-loop μ-loop
 index-2-hold-3 c = search needs
 
 mul-hold-4 : tie.Need-mul-hold-4 Inv-loop μ-loop
-mul-hold-4 c = omega (arith, c .before .before .before .before .before .before .before .before .before .before .before .before .pre .few, count-is (now (c .before .before .before .before .before .before .before .before .before .before .before .before .args .session)))
+mul-hold-4 c = omega (arith, within (c .before .before .before .before .before .before))
 
 index-1-hold-4 : tie.Need-index-1-hold-4 Inv-loop μ-loop
-index-1-hold-4 c = omega (arith, c .before .before .before .before .before .before .before .before .before .before .before .before .pre .few, count-is (now (c .before .before .before .before .before .before .before .before .before .before .before .before .args .session)))
+index-1-hold-4 c = omega (arith, within (c .before .before .before .before .before .before))
 
 index-2-hold-4 : tie.Need-index-2-hold-4 Inv-loop μ-loop
 index-2-hold-4 c = search needs
@@ -119,60 +151,48 @@ hold-requires-2 c κs = search needs
 
 until-requires : tie.Need-until-requires Inv-loop μ-loop
 until-requires c κs =
-    let s = c .before .before .before .before .before .before .before .before .before .before .before .before .before .before in
-    let i = c .before .before .before .before .before .before .before .before .before .loop .i in
-    let below : i < session-in (now (c .before .before .before .before .before .before .before .before .before .before .before .before .before .before .args .session)) .count = omega (arith, count-is (now (c .before .before .before .before .before .before .before .before .before .before .before .before .before .before .args .session)), c .before .before .before .before .before .before .before .before .loop-test .taken) in
-    let holds = holds-at (now (c .before .before .before .before .before .before .before .before .before .before .before .before .before .before .args .session)) i (s .pre .full) (omega (arith, s .pre .few, below)) ∙ sym (λ j. record { up = c .before .before .before .hold .ensures j; down = c .hold2 .ensures j }) in
-    subst (λ (h : Holds). HoldsIn h × (c .before .before .before .before .before .before .before .before .before .before .word3 .result ≤ longest-hold)) holds
-    (row-passes (seconds (c .before .before .before .before .before .before .before .before .before .before .word3 .result)) i (ranged (s .pre)) (hold-is (now (c .before .before .before .before .before .before .before .before .before .before .before .before .before .before .args .session)) ∙ ap seconds (sym (c .before .before .before .before .before .before .before .before .before .before .word3 .ensures))) below)
+    let wait = at c .before .head .result .hold in
+    subst (λ (h : Holds). HoldsIn h × (wait .0 ≤ longest-hold)) (holds-read c) (row-passes wait (at c .loop .i) (ranged (start (at c) .pre)) (λ j. read (at c) j .hold) (below (turn c)))
 
 add-i : tie.Need-add-i Inv-loop μ-loop
-add-i c = omega (arith, c .before .before .before .before .before .before .before .before .before .before .before .before .before .before .before .pre .few, count-is (now (c .before .before .before .before .before .before .before .before .before .before .before .before .before .before .before .args .session)))
+add-i c = omega (arith, within (turn (c .before)))
 
 loop-less : tie.Need-loop-less Inv-loop μ-loop
-loop-less c = omega (arith, count-is (now (c .before .before .before .before .before .before .before .before .before .before .before .before .before .before .before .args .session)), c .before .before .before .before .before .before .before .before .before .loop-test .taken)
+loop-less c = omega (arith, below (turn (c .before)))
 
 loop-again : tie.Need-loop-again Inv-loop μ-loop
 loop-again c =
-    let s = c .before .before .before .before .before .before .before .before .before .before .before .before .before .before .before in
-    let at = c .before .before .before .before .before .before .before .before .before .before .loop in
-    let z = session-in (now (c .before .before .before .before .before .before .before .before .before .before .before .before .before .before .before .args .session)) in
-    let below : at .i < z .count = omega (arith, count-is (now (c .before .before .before .before .before .before .before .before .before .before .before .before .before .before .before .args .session)), c .before .before .before .before .before .before .before .before .before .loop-test .taken) in
-    let holds = holds-at (now (c .before .before .before .before .before .before .before .before .before .before .before .before .before .before .before .args .session)) (at .i) (s .pre .full) (omega (arith, s .pre .few, below)) ∙ sym (λ j. record { up = c .before .before .before .before .hold .ensures j; down = c .before .hold2 .ensures j }) in
-    let wait = hold-is (now (c .before .before .before .before .before .before .before .before .before .before .before .before .before .before .before .args .session)) ∙ ap seconds (sym (c .before .before .before .before .before .before .before .before .before .before .before .word3 .ensures)) in (
-      omega (arith, below),
-      until-turn (z .hold) (z .count) (z .lines) (at .i) (at .quiet) (c .until .result) below (omega (arith, s .pre .few, s .pre .full))
-          (c .until .ensures ∙ sym (λ j. until (at .quiet) (wait j) (holds j))) (at .inv .1),
-      subst (λ (k : ℕ). Gathered (z .lines) (at .i + 1) (set (at .ids) (at .i) k)) (id-at (now (c .before .before .before .before .before .before .before .before .before .before .before .before .before .before .before .args .session)) (at .i) (s .pre .full) (omega (arith, s .pre .few, below)) ∙ sym (c .before .before .before .before .before .before .before .word4 .ensures))
-          (gathered-turn (z .lines) (at .i) (at .ids) (omega (arith, s .pre .full, s .pre .few, below)) (omega (arith, s .pre .few, below)) (at .inv .2)),
+    let a : tie.At-loop Inv-loop μ-loop = at (c .before) in
+    let z = given a in
+    let v = start a .pre in
+    let here = below (turn (c .before)) in
+    let inside = within (turn (c .before)) in (
+      omega (arith, here),
+      until-turn (z .hold) (z .count) (z .lines) (a .loop .i) (a .loop .quiet) (c .until .result) here (omega (arith, v .few, v .full))
+          (c .until .ensures ∙ sym (λ j. until (a .loop .quiet) (read a j .hold) (holds-read (c .before) j))) (a .loop .inv .1),
+      subst (λ (k : ℕ). Gathered (z .lines) (a .loop .i + 1) (set (a .loop .ids) (a .loop .i) k))
+          (id-at (rows a) (a .loop .i) (v .full) inside ∙ sym (c .before .before .before .before .before .before .before .word .ensures))
+          (gathered-turn (z .lines) (a .loop .i) (a .loop .ids) (omega (arith, v .full, inside)) inside (a .loop .inv .2)),
     )
 
 array-share-prefix-ids : tie.Need-array-share-prefix-ids Inv-loop μ-loop
-array-share-prefix-ids c = omega (arith, c .before .before .before .before .before .before .pre .few, count-is (now (c .before .before .before .before .before .before .args .session)), c .before .loop .inv .2 .long)
+array-share-prefix-ids c = omega (arith, start (c .before) .pre .few, count-read (c .before), c .before .loop .inv .2 .long)
 
 slice-aggregate-screen : tie.Need-slice-aggregate-screen Inv-loop μ-loop
-slice-aggregate-screen c = sym (length-take-le _ (c .before .before .loop .ids) (omega (arith, c .before .before .before .before .before .before .before .pre .few, count-is (now (c .before .before .before .before .before .before .before .args .session)), c .before .before .loop .inv .2 .long)))
+slice-aggregate-screen c =
+    let a : tie.At-loop Inv-loop μ-loop = c .before .before in
+    sym (length-take-le _ (a .loop .ids) (omega (arith, start a .pre .few, count-read a, a .loop .inv .2 .long)))
 
 screen-requires : tie.Need-screen-requires Inv-loop μ-loop
-screen-requires c κs =
-    let at = c .before .before .loop in
-    let z = session-in (now (c .before .before .before .before .before .before .before .args .session)) in
-    subst (λ (n : ℕ). Distinct (take n (at .ids))) (sym (count-is (now (c .before .before .before .before .before .before .before .args .session))))
-    (subst Distinct (sym (gathered-all (z .lines) (z .count) (at .i) (at .ids) (omega (arith, count-is (now (c .before .before .before .before .before .before .before .args .session)), c .before .loop-test .left, at .inv .0)) (at .inv .2))) (c .before .before .before .before .before .before .before .pre .distinct))
+screen-requires c κs = subst Distinct (sym (named (c .before))) (start (c .before .before) .pre .distinct)
 
 returns : tie.Need-returns Inv-loop μ-loop
 returns c =
-    let s = c .before .before .before .before .before .before .before .before in
-    let at = c .before .before .before .loop in
-    let z = session-in (now (c .before .before .before .before .before .before .before .before .args .session)) in
-    let e = s .args .e in
-    let all : at .i ≡ z .count = omega (arith, count-is (now (c .before .before .before .before .before .before .before .before .args .session)), c .before .before .loop-test .left, at .inv .0) in
-    let named = ap (λ (n : ℕ). take n (at .ids)) (count-is (now (c .before .before .before .before .before .before .before .before .args .session))) ∙ gathered-all (z .lines) (z .count) (at .i) (at .ids) all (at .inv .2) in
-    let ended = end-is (now (c .before .before .before .before .before .before .before .before .args .session)) ∙ ap seconds (sym (c .before .before .before .before .before .word2 .ensures)) in
-    let clocked = clock-is (now (c .before .before .before .before .before .before .before .before .args .session)) ∙ ap seconds (sym (c .before .before .before .before .before .before .word .ensures)) in (
-      c .screen .ensures ∙ ap (λ (js : List ℕ). screened js (seconds (c .before .before .before .before .before .word2 .result)) (seconds (c .before .before .before .before .before .before .word .result)) e) named
-          ∙ sym (λ j. screened (session-ids (view z)) (ended j) (clocked j) e),
-      until-end (z .hold) (z .count) (z .lines) (at .i) (at .quiet) (omega (arith, s .pre .few, s .pre .full)) all (at .inv .1),
+    let a : tie.At-loop Inv-loop μ-loop = c .before .before .before in
+    let z = given a in
+    let v = start a .pre in (
+      c .screen .ensures ∙ (λ j. screened (named (c .before .before) j) (sym (read a) j .end) (sym (read a) j .clock) (start a .args .e)),
+      until-end (z .hold) (z .count) (z .lines) (a .loop .i) (a .loop .quiet) (omega (arith, v .few, v .full)) (all (c .before .before)) (a .loop .inv .1),
     )
 
 pub looked-spec : {M : Type 1} → statement M
@@ -181,19 +201,13 @@ looked-spec =
     (tie.spec
     Inv-loop
     μ-loop
-    element-copy-out-head
-    array-read-n
-    array-read-word
-    word-requires
-    array-read-word-2
-    word-requires-2
-    array-read-word-3
-    word-requires-3
+    element-copy-out-top
+    head-requires
     loop-holds
     mul-word
     index-1-word
     index-2-word
-    word-requires-4
+    word-requires
     mul-ids
     array-write-ids
     mul-hold
