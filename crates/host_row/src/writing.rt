@@ -8,7 +8,7 @@ use method::Line;
 use method::Price;
 use numbers::Steps;
 
-pub fn word_number(n: u32) -> u64
+fn word_number(n: u32) -> u64
     ensures { λ r. ⌜ word-in r ≡ n ⌝ }
 {
     n as u64
