@@ -5,16 +5,11 @@ use Prim.Native.Nat.{ℕ, _*_}
 use lib.Dec.{ltb}
 use lib.IntN.{ℤ}
 use lib.ListN.{length}
-use Rattle.method.specs.words.Ranges.{most-contracts}
 use Rattle.method.specs.told.Rows.{closing-row, numbers-of}
 use Rattle.rows.specs.Buffer.{written}
 use Rattle.corridor.specs.declared.Session.{Session}
 use Rattle.rows.specs.declared.RowsAnswer.{RowsAnswer}
 use Rattle.corridor.specs.View.{view}
-
--- as many numbers as closing rows may have: six for each contract that there may be
-abbrev pub closing-needs : ℕ
-closing-needs = 6 * most-contracts
 
 -- the closing rows in numbers
 abbrev pub closing-numbers : Session → List ℤ

@@ -14,6 +14,7 @@ use Rattle.method.specs.words.Ranges.{longest-hold}
 use Rattle.method.specs.computed.Search.{due-of, ahead, sooner, passed, earliest, in-time, next-due}
 use Rattle.method.specs.computed.Rooms.{HoldsIn}
 use Rattle.shifts.proofs.Rooms.{room-passes}
+use Rattle.method.proofs.FirstFound.{nothing-at}
 use Rattle.corridor.specs.Names.{Side, Up, Down, Seconds, Hold, Idle, Since, Holds, Line, Due, Found, Nothing, At}
 use Rattle.corridor.specs.declared.Session.{Session}
 use Rattle.corridor.specs.View.{view, Ranged}
@@ -89,11 +90,7 @@ pub record Next (t : Seconds) (s : State) (x : Due) : Type 0 where
   pub left : 0 < s .left
 
 nothing : {A : Type 0} {x : Due} → Nothing ≡ At x → A
-nothing e = absurd (subst none e tt)
-  where
-    none : Found → Type 0
-    none Nothing = Unit {0}
-    none (At x) = ⊥
+nothing e = absurd (nothing-at e)
 
 at-is : {x y : Due} → At x ≡ At y → x ≡ y
 at-is {x} e = ap due e

@@ -8,7 +8,9 @@ use lib.Seq.{getD-take}
 use Rattle.numbers.specs.Arrays.{padded}
 use Rattle.numbers.proofs.Arrays.{padded-set}
 use Rattle.method.specs.words.Types.{State, blank}
-use Rattle.method.specs.computed.Shift.{shifted, onward, after, most-left}
+use Rattle.method.specs.words.Ranges.{most-shifts}
+use Rattle.method.specs.computed.Head.{most-left}
+use Rattle.method.specs.computed.Shift.{shifted, onward, after}
 use Rattle.method.specs.computed.Search.{in-time, next-due, called, served-by}
 use Rattle.method.proofs.HoldLife.{Judged}
 use Rattle.method.proofs.Head.{most-shifted}
@@ -35,7 +37,7 @@ pub record Going (t : Seconds) (s₀ : Session) (n : ℕ) (wait end : Seconds) (
   pub told : shifts ≡ padded 16 no-shift cs
   pub counted : made ≡ length cs
   pub judged : Judged (view s)
-  pub spent : length cs + most-left (view s) ≤ 16
+  pub spent : length cs + most-left (view s) ≤ most-shifts
   pub rest : served-by t (view s₀) ≡ cs ++ served-by t (view s)
 
 pub going-start : (t : Seconds) (s : Session) → Valid s → Going t s (s .count) (s .hold) (s .end) s (replicate 16 no-shift) 0
@@ -103,7 +105,7 @@ module _ {t : Seconds} {s₀ : Session} {n : ℕ} {wait end : Seconds} {s : Sess
         told = rw (at .told, at .counted) (padded-set 16 no-shift (at .cs) b (omega (arith, at .spent, fewer)));
         counted = omega (arith, at .counted, more);
         judged = subst Judged (sym seen) (judged-onward v b);
-        spent = subst (λ (z : State). length (at .cs ++ (b ∷ [])) + most-left z ≤ 16) (sym seen) (omega (arith, at .spent, fewer, more));
+        spent = subst (λ (z : State). length (at .cs ++ (b ∷ [])) + most-left z ≤ most-shifts) (sym seen) (omega (arith, at .spent, fewer, more));
         rest =
             at .rest ∙ ap (λ (ds : List ShiftLine). at .cs ++ ds) (served-first t v x (at .judged) e) ∙ sym (append-assoc (at .cs) (b ∷ []) (served-by t w))
             ∙ ap (λ (z : State). (at .cs ++ (b ∷ [])) ++ served-by t z) (sym seen);

@@ -9,7 +9,8 @@ use lib.Seq.{set-append-left}
 use Rattle.numbers.specs.Arrays.{padded}
 use Rattle.method.specs.words.Types.{State, blank}
 use Rattle.method.specs.words.Sessions.{Answer}
-use Rattle.method.specs.computed.Shift.{with-lines, after}
+use Rattle.method.specs.computed.Head.{with-lines}
+use Rattle.method.specs.computed.Shift.{after}
 use Rattle.method.specs.computed.Event.{read, verdict, with-book, quoted-line, quoted, applied, next}
 use Rattle.method.specs.computed.Relation.{time}
 use Rattle.method.specs.computed.Search.{served-by, answer, finally}
@@ -18,7 +19,7 @@ use Rattle.method.proofs.Demands.{by-cond}
 use Rattle.method.proofs.Events.{read-in}
 use Rattle.verdict.specs.declared.Change.{Change}
 use Rattle.verdict.specs.declared.Taken.{Taken}
-use Rattle.pressure.specs.Asks.{Pressed}
+use Rattle.pressure.specs.Asks.{JudgeableLine}
 use Rattle.shifts.proofs.Rooms.{room-quotes}
 use Rattle.corridor.specs.Names.{Seconds, Millionths, Line, ShiftLine, Quote, Event, Damaged, Tick, Quoted, EventAnswer, EventReason}
 use Rattle.corridor.specs.declared.Session.{Session}
@@ -68,13 +69,13 @@ quote-in b q said = subst EventIn said (read-in b)
 
 -- what a quote asks of its line, in the session served
 pub quote-asks : (s : Session) (t : Seconds) (q : Quote) (p : ℕ) (r : Served) → Valid s → Named (q .id) (view s .lines) p → PriceIn (q .bid) × PriceIn (q .ask)
-    → r ≡ served-as s (served-by t (view s)) → Pressed (r .session .near) (with-book (getD (r .session .lines) p blank) (q .bid) (q .ask))
+    → r ≡ served-as s (served-by t (view s)) → JudgeableLine (r .session .near) (with-book (getD (r .session .lines) p blank) (q .bid) (q .ask))
 quote-asks s t q p r v named i er = rw er (go (ranged-served s t v))
   where
     x : State
     x = after (served-by t (view s)) (view s)
 
-    go : Ranged (put s x) → Pressed (x .near) (with-book (getD (put s x .lines) p blank) (q .bid) (q .ask))
+    go : Ranged (put s x) → JudgeableLine (x .near) (with-book (getD (put s x .lines) p blank) (q .bid) (q .ask))
     go w = room-quotes (x .near) (q .bid) (q .ask) (w .sane .near .most) (i .0) (i .1)
         (room-at p w (omega (arith, named-below (q .id) (view s .lines) p named, after-length (served-by t (view s)) (view s))))
 

@@ -7,8 +7,9 @@ use native.Mathlib.Omega.{arith}
 use lib.Dec.{eqb}
 use lib.ListN.{length, getD, set, take, replicate, length-set}
 use lib.Seq.{take-suc, take-suc-set}
-use Rattle.method.specs.words.Types.{State, blank, ids, session-ids}
+use Rattle.method.specs.words.Types.{State, blank, session-ids}
 use Rattle.method.specs.words.Sessions.{Answer, accepted, refused}
+use Rattle.method.specs.computed.Opening.{ids}
 use Rattle.method.specs.computed.Judge.{judge-line}
 use Rattle.method.specs.computed.Shift.{shifted, onward, after}
 use Rattle.method.specs.computed.Event.{quoted-line, quoted, applied, next}

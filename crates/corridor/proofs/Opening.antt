@@ -7,10 +7,10 @@ use lib.ListN.{length, drop, replicate}
 use Rattle.method.specs.words.Types.{State, blank, seconds}
 use Rattle.method.specs.words.Tables.{Opening, opened, refused}
 use Rattle.method.specs.computed.Table.{opening}
-use Rattle.method.specs.computed.Shift.{with-lines}
+use Rattle.method.specs.computed.Head.{with-lines}
 use Rattle.method.proofs.Table.{accepted-table}
 use Rattle.table.specs.declared.TableReply.{TableReply}
-use Rattle.table.specs.Reply.{opened-as}
+use Rattle.table.specs.TableReply.{opened-as}
 use Rattle.corridor.specs.Names.{TableAnswer}
 use Rattle.corridor.specs.declared.OpenReply.{OpenReply}
 use Rattle.corridor.specs.View.{with-head, opened-session}

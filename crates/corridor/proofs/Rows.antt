@@ -6,7 +6,7 @@ use native.Mathlib.Omega.{arith}
 use lib.ListN.{length, getD, set, take, drop}
 use lib.Seq.{length-take-le, getD-take}
 use Rattle.method.specs.words.Types.{blank}
-use Rattle.method.specs.computed.Shift.{most-left}
+use Rattle.method.specs.computed.Head.{most-left}
 use Rattle.method.specs.computed.Rooms.{Room}
 use Rattle.method.proofs.Every.{every-at}
 use Rattle.corridor.specs.declared.Session.{Session}

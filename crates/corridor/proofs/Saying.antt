@@ -7,8 +7,9 @@ use native.Mathlib.Omega.{arith}
 use borrow.Author.Tests.{eqb-true, eqb-false, leb-true, ltb-true, ltb-false, lt-ltb, le-ltb}
 use lib.Dec.{eqb, ltb, leb}
 use lib.ListN.{length}
-use Rattle.method.specs.words.Types.{State, ids, session-ids}
+use Rattle.method.specs.words.Types.{State, session-ids}
 use Rattle.method.specs.told.Questions.{listed, known, demand}
+use Rattle.method.specs.computed.Opening.{ids}
 use Rattle.method.specs.computed.Event.{in-session, not-crossed, verdict}
 use Rattle.method.specs.computed.Relation.{time}
 use Rattle.verdict.specs.declared.Change.{Change}

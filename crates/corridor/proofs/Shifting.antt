@@ -7,7 +7,8 @@ use native.Mathlib.Omega.{arith}
 use lib.ListN.{length, getD, take, drop, length-map}
 use Rattle.method.specs.words.Types.{State, blank}
 use Rattle.method.specs.words.Ranges.{longest-session}
-use Rattle.method.specs.computed.Shift.{shift-line, with-lines, shifted, onward, after}
+use Rattle.method.specs.computed.Head.{with-lines}
+use Rattle.method.specs.computed.Shift.{shift-line, shifted, onward, after}
 use Rattle.method.proofs.Sane.{sane-shifted}
 use Rattle.corridor.specs.Names.{Side, Seconds, Line, ShiftLine}
 use Rattle.corridor.specs.declared.Session.{Session}

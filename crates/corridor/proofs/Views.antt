@@ -6,7 +6,7 @@ use native.Mathlib.Omega.{arith}
 use lib.ListN.{length, take, drop, length-append, length-drop, take-append-drop}
 use lib.Seq.{take-append-seam, drop-append-seam, length-take-le}
 use Rattle.method.specs.words.Types.{State, session-ids}
-use Rattle.method.specs.computed.Shift.{with-lines}
+use Rattle.method.specs.computed.Head.{with-lines}
 use Rattle.method.specs.computed.Rooms.{Sane}
 use Rattle.method.specs.computed.Sound.{Sound, Distinct}
 use Rattle.corridor.specs.Names.{Line}

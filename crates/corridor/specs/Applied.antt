@@ -6,7 +6,7 @@ use Rattle.method.specs.words.Types.{blank}
 use Rattle.method.specs.computed.Event.{with-book, quoted-line}
 use Rattle.verdict.specs.declared.Change.{Change}
 use Rattle.verdict.specs.declared.Taken.{Taken}
-use Rattle.pressure.specs.Asks.{Pressed}
+use Rattle.pressure.specs.Asks.{JudgeableLine}
 use Rattle.corridor.specs.Names.{Line}
 use Rattle.corridor.specs.declared.Session.{Session}
 use Rattle.corridor.specs.View.{moved-on}
@@ -21,4 +21,4 @@ applied-to s v = moved-on s (lines-after s (v .change)) (v .time)
 -- what a quote asks of its line
 abbrev pub Applies : Session → Change → Type 0
 Applies s Change.Nothing = Unit {0}
-Applies s (Change.Quote p) = (p .place < 32) × Pressed (s .near) (with-book (getD (s .lines) (p .place) blank) (p .quote .bid) (p .quote .ask))
+Applies s (Change.Quote p) = (p .place < 32) × JudgeableLine (s .near) (with-book (getD (s .lines) (p .place) blank) (p .quote .bid) (p .quote .ask))

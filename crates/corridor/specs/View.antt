@@ -5,11 +5,12 @@ use mathlib.Core.List.{List, _++_}
 use Prim.Native.Nat.{ℕ, _≤_}
 use lib.ListN.{length, set, take, drop, replicate}
 use Rattle.method.specs.words.Types.{State, blank, session-ids}
+use Rattle.method.specs.words.Ranges.{most-contracts}
 use Rattle.method.specs.words.Tables.{Opening, opened, refused}
-use Rattle.method.specs.computed.Shift.{with-lines}
+use Rattle.method.specs.computed.Head.{with-lines}
 use Rattle.method.specs.computed.Rooms.{Sane}
 use Rattle.method.specs.computed.Sound.{Sound, Distinct}
-use Rattle.table.specs.Reply.{no-state}
+use Rattle.table.specs.TableReply.{no-state}
 use Rattle.corridor.specs.Names.{Seconds, Line, TableAnswer}
 use Rattle.corridor.specs.declared.Session.{Session}
 use Rattle.corridor.specs.declared.OpenReply.{OpenReply}
@@ -47,14 +48,14 @@ opened-session (refused why line) = record { answer = TableAnswer.Refused why li
 -- The array's length and the ranges of a session's numbers: what one shift asks, and keeps.
 pub record Ranged (s : Session) : Type 0 where
   pub full : length (s .lines) ≡ 32
-  pub few : s .count ≤ 32
+  pub few : s .count ≤ most-contracts
   pub sane : Sane (view s)
 
 -- What every function of a session asks, and every session has: the array's length, the ranges of its numbers, that holds stand exactly where
 -- there is pressure and none is left to serve up to the clock, and that no id stands twice.
 pub record Valid (s : Session) : Type 0 where
   pub full : length (s .lines) ≡ 32
-  pub few : s .count ≤ 32
+  pub few : s .count ≤ most-contracts
   pub sane : Sane (view s)
   pub sound : Sound (view s)
   pub distinct : Distinct (session-ids (view s))

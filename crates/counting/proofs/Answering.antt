@@ -12,18 +12,18 @@ use Rattle.rows.proofs.Buffer.{numbers-long}
 use Rattle.corridor.specs.declared.Session.{Session}
 use Rattle.feeding.specs.declared.Fed.{Fed}
 use Rattle.corridor.specs.View.{view, Valid}
-use Rattle.closing.specs.Closing.{closing-needs, closing-numbers, closed, closed-into}
+use Rattle.closing.specs.Closing.{closing-numbers, closed, closed-into}
 use Rattle.feeding.specs.Feeding.{feed-needs, fed}
 use Rattle.corridor.proofs.Views.{view-length}
 use Rattle.feeding.proofs.Chunks.{fed-is, told-fits}
-use Rattle.counting.specs.declared.Counted.{Counted}
-use Rattle.counting.specs.Counted.{number-in, counted}
+use Rattle.counting.specs.declared.Tally.{Tally}
+use Rattle.counting.specs.Counted.{number-in, counted, most-closing}
 
 pub counted-is : (s : Session) (b : List ℕ) (size : ℕ) {r : Fed} {n : ℕ} → feed-needs (length b) ≤ size → r ≡ fed s size b → n ≡ number-in (r .answer)
-    → _≡_ {A = Counted} (record { count = n; session = r .session }) (counted s b)
+    → _≡_ {A = Tally} (record { count = n; session = r .session }) (counted s b)
 counted-is s b size fits e q = rw (q, e ∙ fed-is s size b fits)
 
-pub count-fits : (s : Session) (b : List ℕ) {r : Counted} → Valid s → r ≡ counted s b → r .count ≤ feed-needs (length b)
+pub count-fits : (s : Session) (b : List ℕ) {r : Tally} → Valid s → r ≡ counted s b → r .count ≤ feed-needs (length b)
 count-fits s b v e = rw e (told-fits s b v)
 
 -- ---- the closing rows
@@ -31,10 +31,10 @@ closing-long : (s : Session) → Valid s → length (closing-numbers s) ≡ 6 * 
 closing-long s v =
     numbers-long (map closing-row (view s .lines)) ∙ ap (λ (n : ℕ). 6 * n) (length-map (view s .lines) closing-row ∙ view-length v)
 
-pub closing-few : (s : Session) → Valid s → length (closing-numbers s) ≤ closing-needs
+pub closing-few : (s : Session) → Valid s → length (closing-numbers s) ≤ most-closing
 closing-few s v = omega (arith, closing-long s v, v .few)
 
-module _ (s : Session) (v : Valid s) (out : List ℤ) (fits : closing-needs ≤ length out) where
+module _ (s : Session) (v : Valid s) (out : List ℤ) (fits : most-closing ≤ length out) where
   enough : 6 * s .count ≤ length out
   enough = omega (arith, v .few)
 

@@ -7,8 +7,8 @@ ghost use lib.ListN.{length};
 ghost use Rattle.rows.specs.Buffer.{written};
 ghost use Rattle.corridor.specs.View.{Valid};
 ghost use Rattle.feeding.specs.Feeding.{feed-needs, told};
-ghost use Rattle.closing.specs.Closing.{closing-needs, closing-numbers};
-ghost use Rattle.counting.specs.Counted.{number-in, counted};
+ghost use Rattle.closing.specs.Closing.{closing-numbers};
+ghost use Rattle.counting.specs.Counted.{number-in, counted, most-closing};
 use corridor::Session;
 use rows::RowsAnswer;
 
@@ -23,13 +23,13 @@ pub fn number_in(answer: RowsAnswer) -> usize
 }
 
 // How many numbers the answers to a chunk have, and the session that it leaves.
-pub struct Counted {
+pub struct Tally {
     pub count: usize,
     pub session: Session,
 }
 
 // A chunk's answers, for which the room is there.
-pub fn fed(s: Session, chunk: &[u8], numbers: &mut [i64]) -> Counted
+pub fn counted(s: Session, chunk: &[u8], numbers: &mut [i64]) -> Tally
     requires { ⌜ Valid s × (feed-needs (length (now chunk)) ≤ length (now numbers)) ⌝ }
     ensures { λ r. ⌜ r ≡ counted s (now (chunk .entry)) ⌝ }
     ensures { λ _. ⌜ now (numbers .exit) ≡ written (now (numbers .entry)) 0 (told s (now (chunk .entry))) ⌝ }
@@ -38,7 +38,7 @@ pub fn fed(s: Session, chunk: &[u8], numbers: &mut [i64]) -> Counted
     let answer = r.answer;
     let count = number_in(answer);
     let session = r.session;
-    Counted {
+    Tally {
         count: count,
         session: session,
     }
@@ -46,7 +46,7 @@ pub fn fed(s: Session, chunk: &[u8], numbers: &mut [i64]) -> Counted
 
 // The closing rows, for which the room is there; the answer is how many numbers they have.
 pub fn closed(s: Session, numbers: &mut [i64]) -> usize
-    requires { ⌜ Valid s × (closing-needs ≤ length (now numbers)) ⌝ }
+    requires { ⌜ Valid s × (most-closing ≤ length (now numbers)) ⌝ }
     ensures { λ r. ⌜ r ≡ length (closing-numbers s) ⌝ }
     ensures { λ _. ⌜ now (numbers .exit) ≡ written (now (numbers .entry)) 0 (closing-numbers s) ⌝ }
 {

@@ -14,7 +14,7 @@ use Rattle.method.specs.words.Types.{State}
 use Rattle.method.specs.words.Sessions.{Answer, accepted, refused}
 use Rattle.method.specs.told.Rows.{rows-of, rows-of-all, numbers-of}
 use Rattle.method.specs.told.Program.{pieces, events-of}
-use Rattle.method.specs.computed.Shift.{most-left}
+use Rattle.method.specs.computed.Head.{most-left}
 use Rattle.method.specs.computed.Event.{read, next}
 use Rattle.method.specs.computed.Relation.{Right, Answers}
 use Rattle.method.specs.computed.Search.{answer, run, finally}

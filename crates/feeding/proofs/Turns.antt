@@ -8,7 +8,8 @@ use lib.ListN.{length, getD, set, take, drop, replicate}
 use lib.Seq.{getD-take, getD-set-same}
 use Rattle.method.specs.words.Types.{State, blank, seconds, session-ids}
 use Rattle.method.specs.told.Rows.{row-numbers, numbers-of}
-use Rattle.method.specs.computed.Shift.{after, most-left}
+use Rattle.method.specs.computed.Head.{most-left}
+use Rattle.method.specs.computed.Shift.{after}
 use Rattle.method.specs.computed.Event.{read, verdict, quoted-line, applied}
 use Rattle.method.specs.computed.Relation.{time}
 use Rattle.method.specs.computed.Search.{served-by}

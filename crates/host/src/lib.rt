@@ -16,7 +16,7 @@ ghost use Rattle.corridor.specs.View.{view, Valid, opened-session};
 ghost use Rattle.feeding.specs.Feeding.{fed, fed-into};
 ghost use Rattle.closing.specs.Closing.{closed, closed-into};
 ghost use Rattle.host_memory.specs.Memory.{session-in};
-ghost use Rattle.host_questions.specs.Asked.{told-into, place-number, report-into};
+ghost use Rattle.host_questions.specs.AskedNumbers.{told-into, place-number, report-into};
 ghost use Rattle.counting.specs.Counted.{number-in};
 ghost use Rattle.host_session.specs.Answers.{line-said, reply-in, shift-rows, Leaves};
 ghost use Rattle.host.specs.Checked.{damaged, damaged-count, Tells};

@@ -7,13 +7,14 @@ use lib.ListN.{length, take, length-map}
 use lib.Seq.{length-take-le}
 use Rattle.numbers.specs.declared.Millionths.{Millionths}
 use Rattle.method.specs.words.Types.{session-ids}
-use Rattle.method.specs.computed.Shift.{most-left}
+use Rattle.method.specs.computed.Head.{most-left}
 use Rattle.method.specs.computed.Search.{next-due}
 use Rattle.method.specs.computed.Rooms.{Room}
 use Rattle.method.specs.computed.Sound.{Exact, Distinct}
 use Rattle.method.specs.declared.Line.{Line}
 use Rattle.method.specs.declared.Found.the-variants.{Nothing}
-use Rattle.host_line.proofs.Whole.{rows-all, all-rows, none-due-done, done-none-due}
+use Rattle.method.proofs.Serving.{none-due-done, done-none-due}
+use Rattle.host_line.proofs.Whole.{rows-all, all-rows}
 use Rattle.corridor.specs.declared.Session.{Session}
 use Rattle.corridor.specs.View.{view, Valid}
 use Rattle.host_row.specs.Packed.{line-in}

@@ -2,7 +2,7 @@
 use Prim.Native.Nat.{ℕ, _<_}
 use lib.ListN.{getD}
 use Rattle.method.specs.words.Types.{blank}
-use Rattle.method.specs.computed.Shift.{most-left}
+use Rattle.method.specs.computed.Head.{most-left}
 use Rattle.method.specs.computed.Rooms.{Room}
 use Rattle.method.specs.computed.Sound.{Exact}
 use Rattle.method.specs.declared.Found.the-variants.{Nothing}

@@ -1,21 +1,15 @@
--- What is decided of each row, said of all of them; and that no hold is left to serve where the search finds none. Assumes nothing.
-use mathlib.Core.Path.{_≡_, refl, sym}
+-- What is decided of each row, said of all of them. Assumes nothing.
 use mathlib.Core.List.{List}
 use Prim.Native.Nat.{ℕ, zero, suc, _≤_, _<_}
 use native.Mathlib.Omega.{arith}
 use lib.ListN.{length, getD, take}
 use lib.Seq.{take-suc, getD-take, length-take-le}
-use Rattle.method.specs.words.Types.{State, blank}
+use Rattle.method.specs.words.Types.{blank}
 use Rattle.method.specs.words.Ranges.{Every}
-use Rattle.method.specs.words.Holds.{Done}
-use Rattle.method.specs.computed.Search.{in-time, next-due}
 use Rattle.method.specs.computed.Rooms.{Room}
 use Rattle.method.specs.computed.Sound.{Exact}
 use Rattle.method.proofs.Every.{every-at, every-last}
-use Rattle.method.proofs.FirstFound.{FoundIn}
-use Rattle.method.proofs.HoldLife.{Judged}
-use Rattle.method.proofs.Serving.{due-found}
-use Rattle.host_line.specs.Names.{Millionths, Seconds, Line, Due, Found, Nothing, At}
+use Rattle.host_line.specs.Names.{Millionths, Line}
 
 -- ---- the first n rows of an array, row by row
 module _ {A : Type 0} (P : A → Type 0) (xs : List A) (d : A) where
@@ -39,23 +33,3 @@ module _ (near : Millionths) (left most : ℕ) (rows : List Line) (n : ℕ) (h :
 
   pub all-rows : Every (Room most) (take n rows) → Every (Exact near left) (take n rows) → Rows near left most rows n
   all-rows r x i g = (first-every (Room most) rows blank n h r i g, first-every (Exact near left) rows blank n h x i g)
-
--- ---- no hold is left to serve exactly where the search finds none in time
-pub nothing-at : {x : Due} → Nothing ≡ At x → ⊥
-nothing-at e = let z : _≡_ {A = ℕ} 0 1 = cc in omega arith
-
-found-done : (t : Seconds) (s : State) (d : Found) → FoundIn t s d → d ≡ Nothing → Done t s
-unfolding FoundIn
-found-done t s Nothing f e = f
-found-done t s (At x) f e = absurd (nothing-at (sym e))
-
-done-found : (t : Seconds) (s : State) (d : Found) → FoundIn t s d → Done t s → d ≡ Nothing
-unfolding FoundIn Done
-done-found t s Nothing f h = refl
-done-found t s (At x) f h = let late = h _ (f .stands) (f .before-end) in let by = f .in-time in absurd (omega arith)
-
-pub none-due-done : (t : Seconds) (s : State) → Judged s → next-due t s ≡ Nothing → Done t s
-none-due-done t s j e = found-done t s (next-due t s) (due-found t s j) e
-
-pub done-none-due : (t : Seconds) (s : State) → Judged s → Done t s → next-due t s ≡ Nothing
-done-none-due t s j h = done-found t s (next-due t s) (due-found t s j) h

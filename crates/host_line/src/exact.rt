@@ -7,7 +7,7 @@ ghost use Rattle.numbers.specs.Decides.{Decides};
 ghost use Rattle.method.specs.words.Pressure.{presses};
 ghost use Rattle.method.specs.words.Holds.{hold-of};
 ghost use Rattle.method.specs.computed.Sound.{standing, Exact};
-ghost use Rattle.pressure.specs.Asks.{Pressed};
+ghost use Rattle.pressure.specs.Asks.{JudgeableLine};
 use method::Hold;
 use method::Holds;
 use method::Line;
@@ -33,8 +33,8 @@ fn stands(h: Hold) -> bool
 }
 
 // Where no shift is left no hold stands, and no price is looked at.
-fn may_hold(side: Side, near: Millionths, left: u32, l: Line) -> bool
-    requires { ⌜ Pressed near l ⌝ }
+fn pressed(side: Side, near: Millionths, left: u32, l: Line) -> bool
+    requires { ⌜ JudgeableLine near l ⌝ }
     ensures { λ r. ⌜ r ≡ (ltb 0 left && presses side near l) ⌝ }
 {
     if left == 0 {
@@ -44,11 +44,11 @@ fn may_hold(side: Side, near: Millionths, left: u32, l: Line) -> bool
 }
 
 fn exact_on(side: Side, near: Millionths, left: u32, l: Line) -> bool
-    requires { ⌜ Pressed near l ⌝ }
+    requires { ⌜ JudgeableLine near l ⌝ }
     ensures { λ r. ⌜ Decides r (standing (hold-of side (l .holds)) ≡ (ltb 0 left && presses side near l)) ⌝ }
 {
     let h = l.holds;
-    let pressed = may_hold(side, near, left, l);
+    let pressed = pressed(side, near, left, l);
     if stands(hold_of(side, h)) {
         return pressed;
     }
@@ -56,7 +56,7 @@ fn exact_on(side: Side, near: Millionths, left: u32, l: Line) -> bool
 }
 
 pub fn exact(near: Millionths, left: u32, l: Line) -> bool
-    requires { ⌜ Pressed near l ⌝ }
+    requires { ⌜ JudgeableLine near l ⌝ }
     ensures { λ r. ⌜ Decides r (Exact near left l) ⌝ }
 {
     if !exact_on(Side::Up, near, left, l) {

@@ -8,7 +8,7 @@ use Rattle.method.specs.told.Rows.{row-numbers}
 use Rattle.method.specs.declared.Row.the-variants as Row
 use Rattle.host_report.specs.ReportRows.{report-rows}
 use Rattle.host_questions.specs.Names.{Limits, EventReason, LimitsAnswer, Report, ReportAnswer}
-use Rattle.host_questions.specs.Asked.{told-into, report-into}
+use Rattle.host_questions.specs.AskedNumbers.{told-into, report-into}
 
 pub limits-none : (a : LimitsAnswer) (out : List ℤ) → a ≡ LimitsAnswer.Refused EventReason.UnknownId
     → (pos 13 ≡ pos (limits-said a .number)) × (out ≡ told-into out (limits-said a))

@@ -13,7 +13,7 @@ ghost use Rattle.method.specs.computed.Rooms.{Room};
 ghost use Rattle.corridor.specs.View.{view, Valid};
 ghost use Rattle.questions.specs.Asked.{sought};
 ghost use Rattle.host_memory.specs.Memory.{session-in};
-ghost use Rattle.host_questions.specs.Asked.{told-into, place-number, report-into};
+ghost use Rattle.host_questions.specs.AskedNumbers.{told-into, place-number, report-into};
 use host_row::reading;
 use method::EventReason;
 use method::Line;

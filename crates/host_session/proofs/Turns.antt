@@ -8,7 +8,7 @@ use Rattle.method.specs.words.Types.{blank}
 use Rattle.method.specs.computed.Event.{read, with-book}
 use Rattle.method.specs.computed.Search.{served-by}
 use Rattle.method.specs.declared.Quote.{Quote}
-use Rattle.pressure.specs.Asks.{Pressed}
+use Rattle.pressure.specs.Asks.{JudgeableLine}
 use Rattle.verdict.specs.declared.Change.{Change}
 use Rattle.verdict.specs.declared.Taken.{Taken}
 use Rattle.corridor.specs.declared.Served.{Served}
@@ -39,7 +39,7 @@ module _ (s : Session) (v : Valid s) (t : Seconds) (quiet : served-by t (view s)
 
   -- what a quote asks
   pub quote-goes : (b : List ℕ) (q : Quote) (p : ℕ) → Changes (view s) (read b) (Change.Quote (record { quote = q; place = p }))
-      → (p < 32) × Valid s × Pressed (s .near) (with-book (getD (s .lines) p blank) (q .bid) (q .ask))
+      → (p < 32) × Valid s × JudgeableLine (s .near) (with-book (getD (s .lines) p blank) (q .bid) (q .ask))
   quote-goes b q p (said, named) =
       (omega (arith, named-below (q .id) (view s .lines) p named, view-length v, v .few), v, quote-asks s t q p (unserved s) v named (quote-in b q said) as-served)
 

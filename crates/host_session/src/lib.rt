@@ -8,7 +8,7 @@ ghost use Rattle.method.specs.words.Types.{blank, session-ids};
 ghost use Rattle.method.specs.told.Refusals.{table-said, event-said};
 ghost use Rattle.method.specs.computed.Table.{opening};
 ghost use Rattle.method.specs.computed.Event.{with-book, quoted-line};
-ghost use Rattle.pressure.specs.Asks.{Pressed};
+ghost use Rattle.pressure.specs.Asks.{JudgeableLine};
 ghost use Rattle.verdict.specs.Screened.{screened};
 ghost use Rattle.rows.specs.Buffer.{written};
 ghost use Rattle.corridor.specs.View.{view, with-line, Valid, opened-session};
@@ -117,7 +117,7 @@ fn looked(session: &[[u64; 21]; 33], e: Event) -> Seen
 // A quote on the line at its place.
 fn quoted(session: &mut [[u64; 21]; 33], place: usize, q: Quote)
     requires { ⌜ (place < 32) × Valid (session-in (now session))
-        × Pressed (session-in (now session) .near) (with-book (getD (session-in (now session) .lines) place blank) (q .bid) (q .ask)) ⌝ }
+        × JudgeableLine (session-in (now session) .near) (with-book (getD (session-in (now session) .lines) place blank) (q .bid) (q .ask)) ⌝ }
     ensures { λ _. ⌜ session-in (now (session .exit)) ≡ with-line (session-in (now (session .entry))) place
         (quoted-line (session-in (now (session .entry)) .near) (session-in (now (session .entry)) .left) q
         (getD (session-in (now (session .entry)) .lines) place blank)) ⌝ }

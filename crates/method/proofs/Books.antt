@@ -7,7 +7,7 @@ use native.Mathlib.Omega.{arith}
 use lib.Dec.{eqb}
 use lib.IntN.{ℤ}
 use borrow.Author.Tests.{eqb-true, eqb-false}
-use Rattle.method.specs.words.Types.{Millionths, Key, Contract, Line, ShiftLine, State, EventAnswer, seconds, ids}
+use Rattle.method.specs.words.Types.{Millionths, Key, Contract, Line, ShiftLine, State, EventAnswer, seconds}
 use Rattle.method.specs.words.Wire.{word, signed, bit}
 use Rattle.method.specs.words.Ranges.{Every}
 use Rattle.method.specs.words.Opening.{terms-of, fresh-line}
@@ -16,6 +16,7 @@ use Rattle.method.specs.words.Events.{IsQuote, EventAnswered, tick-taken
 use Rattle.method.specs.words.Books.{PriceSaid, Quotes, BookLife}
 use Rattle.method.specs.words.Shifts.{Each}
 use Rattle.method.specs.words.Sessions.{accepted}
+use Rattle.method.specs.computed.Opening.{ids}
 use Rattle.method.specs.computed.Table.{opening}
 use Rattle.method.specs.computed.Judge.{judge-line}
 use Rattle.method.specs.computed.Shift.{moved-line, shift-line, shifted, onward, after}

@@ -7,7 +7,8 @@ use borrow.Author.Tests.{le-leb}
 use Rattle.method.specs.words.Types.{Seconds, ShiftLine, Due, State, EventAnswer}
 use Rattle.method.specs.words.Holds.{Stands, First, Done}
 use Rattle.method.specs.computed.Types.{Event, Damaged, Tick, Quoted}
-use Rattle.method.specs.computed.Shift.{with-lines, shifted, onward, after}
+use Rattle.method.specs.computed.Head.{with-lines}
+use Rattle.method.specs.computed.Shift.{shifted, onward, after}
 use Rattle.method.specs.computed.Event.{in-session, verdict, applied}
 use Rattle.method.specs.computed.Relation.{Calls, time}
 use Rattle.method.proofs.Events.{not-accepted, in-session-met}

@@ -82,10 +82,10 @@ unfolding inside-bounds
 inside-test t m k r = both-true (true-le (r .upper)) (true-le (r .lower))
 
 -- an id that is not listed is none of them
-pub not-any : (id : ℕ) (is : List ℕ) → listed id is ≡ false → Every (λ i. i ≡ id → ⊥) is
+pub listed-not : (id : ℕ) (is : List ℕ) → listed id is ≡ false → Every (λ i. i ≡ id → ⊥) is
 unfolding listed Every
-not-any id [] e = tt
-not-any id (i ∷ is) e = go (eqb i id) refl e (not-any id is)
+listed-not id [] e = tt
+listed-not id (i ∷ is) e = go (eqb i id) refl e (listed-not id is)
   where
     go : (t : Bool) → eqb i id ≡ t → (t || listed id is) ≡ false → (listed id is ≡ false → Every (λ j. j ≡ id → ⊥) is)
         → (i ≡ id → ⊥) × Every (λ j. j ≡ id → ⊥) is

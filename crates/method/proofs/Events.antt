@@ -11,10 +11,11 @@ use borrow.Author.Tests.{leb-true}
 use Rattle.numbers.specs.Ranges.{Between}
 use Rattle.numbers.specs.Tests.{same}
 use Rattle.numbers.proofs.Tests.{both, in-span-true}
-use Rattle.method.specs.words.Types.{Side, Seconds, Millionths, Line, ShiftLine, State, EventReason, EventAnswer, seconds, ids}
+use Rattle.method.specs.words.Types.{Side, Seconds, Millionths, Line, ShiftLine, State, EventReason, EventAnswer, seconds}
 use Rattle.method.specs.words.Wire.{word, signed, bit}
 use Rattle.method.specs.words.Ranges.{largest-quote}
 use Rattle.method.specs.computed.Types.{Event, Damaged, Tick, Quoted}
+use Rattle.method.specs.computed.Opening.{ids}
 use Rattle.method.specs.computed.Judge.{judge-line}
 use Rattle.method.specs.computed.Shift.{moved-line, shift-line, shifted, onward, after}
 use Rattle.method.specs.computed.Event.{price-good, price-of, read-tick, read-quote, read, in-session, verdict}

@@ -11,8 +11,8 @@ use lib.ListN.{getD}
 use borrow.Author.Tests.{ltb-true, ltb-false, leb-true, leb-false, lt-ltb}
 use Rattle.method.specs.words.Types.{Side, Up, Down, Seconds, Hold, Idle, Since, Holds, Line, Due, State, blank}
 use Rattle.method.specs.words.Holds.{hold-of}
-use Rattle.method.specs.computed.Types.{Found, Nothing, At}
 use Rattle.method.specs.words.Holds.{Stands, Ahead, earlier, up-first, lowest, First, Done}
+use Rattle.method.specs.computed.Types.{Found, Nothing, At}
 use Rattle.method.specs.computed.Search.{due-of, outranks, ahead, sooner, passed, earliest, in-time, next-due, called}
 use Rattle.method.proofs.HoldLife.{no-since, same-start, up-not-down, blank-idle}
 
@@ -173,6 +173,9 @@ first-of-all s =
     (λ x. ⊎-elim (λ k. absurd k) (λ f. record { start = f .start; held = rw (f .place, zero-add) (f .held); due = f .due }))
     (λ x h. inr (record { further = x .place; start = h .start; place = omega arith; held = h .held; due = h .due }))
     (earliest-least (λ x. ⊥) (s .hold) 0 (s .lines) Nothing (λ x k. absurd k) (unfold Least in λ x k. k))
+
+pub nothing-at : {x : Due} → Nothing ≡ At x → ⊥
+nothing-at e = let z : _≡_ {A = ℕ} 0 1 = cc in omega arith
 
 -- ---- what the search answers, while shifts are left
 unfoldable pub FoundIn : Seconds → State → Found → Type 0

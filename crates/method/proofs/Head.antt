@@ -1,6 +1,6 @@
 -- What a session has beside its lines: what the table fixed, which every step keeps, and how many shifts may still be made. A number that the
 -- head is given later is spoken of here and in the words; no other proof writes a state out. Assumes nothing.
-use mathlib.Core.Path.{_≡_, refl, _∙_}
+use mathlib.Core.Path.{_≡_, refl, sym, _∙_}
 use mathlib.Core.List.{List, [], _∷_}
 use Prim.Native.Nat.{ℕ, _-_, _≤_, _<_}
 use native.Mathlib.Omega.{arith}
@@ -8,7 +8,8 @@ use Rattle.method.specs.words.Types.{Header, Side, Seconds, Line, ShiftL
 use Rattle.method.specs.words.Tables.{opening-state}
 use Rattle.method.specs.words.Sessions.{SameTable}
 use Rattle.method.specs.computed.Types.{Event, Damaged, Tick, Quoted}
-use Rattle.method.specs.computed.Shift.{with-lines, shifted, onward, after, most-left}
+use Rattle.method.specs.computed.Head.{with-lines, most-left}
+use Rattle.method.specs.computed.Shift.{shifted, onward, after}
 use Rattle.method.specs.computed.Event.{applied}
 
 -- ---- what the table fixed
@@ -37,6 +38,18 @@ applied-kept Damaged s = same-table s
 applied-kept (Tick t) s = with-lines-kept s _ _ _
 applied-kept (Quoted q) s = with-lines-kept s _ _ _
 
+-- and with lines, shifts left and clock it leaves one state
+pub state-one : {s n r : State} → n .lines ≡ r .lines → n .left ≡ r .left → n .clock ≡ r .clock → SameTable s n → SameTable s r → n ≡ r
+state-one lines left clock p q =
+    λ i. record {
+      lines = lines i;
+      clock = clock i;
+      end = (p .end ∙ sym (q .end)) i;
+      hold = (p .hold ∙ sym (q .hold)) i;
+      left = left i;
+      near = (p .near ∙ sym (q .near)) i;
+    }
+
 -- ---- the shifts left: one fewer with each shift, as many with an event
 pub left-onward : (s : State) (c : ShiftLine) → onward s c .left ≡ s .left - 1
 unfolding shifted
@@ -49,9 +62,9 @@ left-applied (Tick t) s = refl
 left-applied (Quoted q) s = refl
 
 -- ---- the shifts that may still be made in all: no fewer than are left now, fewer with each shift, no more with an event
-pub left-most : (s : State) → s .left ≤ most-left s
+pub left-within : (s : State) → s .left ≤ most-left s
 unfolding most-left
-left-most s = omega arith
+left-within s = omega arith
 
 pub most-opened : (h : Header) (ls : List Line) → most-left (opening-state h ls) ≡ h .most
 unfolding most-left opening-state

@@ -25,7 +25,6 @@ pub mod Each
 pub mod Events
 pub mod Redrawn
 pub mod Rooms
-pub mod Products
 pub mod Sane
 pub mod ShiftedLine
 pub mod Later

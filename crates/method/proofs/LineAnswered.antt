@@ -8,17 +8,17 @@ use lib.IntN.{pos}
 use lib.Signed.{leZ}
 use borrow.Author.Tests.{leb-true, leb-false, ltb-true, not-true, le-leb, lt-leb, lt-ltb}
 use Rattle.numbers.proofs.Tests.{both, both-true, le-true, le-false, true-le, false-le}
-use Rattle.method.specs.words.Types.{Key, Contract, Millionths, Line, TableReason, ids}
+use Rattle.method.specs.words.Types.{Key, Contract, Millionths, Line, TableReason}
 use Rattle.method.specs.words.Growth.{most-exponent}
 use Rattle.method.specs.words.Opening.{exponent-of, terms-of, market-of, fresh-line}
 use Rattle.method.specs.words.Tables.{Fresh, its-terms, its-corridor, its-line, Good, Fault}
 use Rattle.method.specs.told.Questions.{listed}
 use Rattle.method.specs.computed.Types.{LineAnswer}
-use Rattle.method.specs.computed.Opening.{fields-good, id-good, inside-bounds, opened-with, open-line}
+use Rattle.method.specs.computed.Opening.{fields-good, id-good, inside-bounds, opened-with, open-line, ids}
 use Rattle.method.proofs.Every.{every-of-map, every-to-map}
 use Rattle.method.proofs.Opening.{contract-in}
 use Rattle.method.proofs.Demands.{by-demand}
-use Rattle.method.proofs.Decided.{denied, refuted, not-any, not-listed, fields-test, inside-in, inside-test}
+use Rattle.method.proofs.Decided.{denied, refuted, listed-not, not-listed, fields-test, inside-in, inside-test}
 
 -- ---- the ids of the lines that contracts open are the contracts' own
 module _ (shift : Millionths) (keys : List Key) where
@@ -37,7 +37,7 @@ module _ (shift : Millionths) (keys : List Key) where
   unfolding id-good fresh-line terms-of
   fresh-in earlier id e =
       let p = both (ltb 0 id) _ e in
-      let new = rw (ids-of earlier) at (not-any id (ids (lines-of earlier)) (not-true (listed id (ids (lines-of earlier))) (p .1))) in
+      let new = rw (ids-of earlier) at (listed-not id (ids (lines-of earlier)) (not-true (listed id (ids (lines-of earlier))) (p .1))) in
       record { given = ltb-true 0 id (p .0); new = every-of-map (λ i. i ≡ id → ⊥) its-id earlier new }
 
   fresh-test : (earlier : List Contract) (id : ℕ) → Fresh earlier id → id-good (lines-of earlier) id ≡ true

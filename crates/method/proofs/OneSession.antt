@@ -5,7 +5,7 @@ use mathlib.Core.List.{List, [], _∷_, _++_}
 use mathlib.Core.Logic.{_↔_}
 use Prim.Native.Nat.{ℕ, _+_, _≤_, _<_}
 use native.Mathlib.Omega.{arith}
-use Rattle.method.specs.words.Types.{Seconds, ShiftLine, State, EventReason, EventAnswer, seconds, ids}
+use Rattle.method.specs.words.Types.{Seconds, ShiftLine, State, EventReason, EventAnswer, seconds}
 use Rattle.method.specs.words.Wire.{word}
 use Rattle.method.specs.words.Ranges.{Every}
 use Rattle.method.specs.words.Events.{IsEvent, EventAnswered, tick-taken, quote-taken}
@@ -13,6 +13,7 @@ use Rattle.method.specs.words.Holds.{Done}
 use Rattle.method.specs.words.Sessions.{Answer, accepted, refused, joined, LineApplied, AppliedTo, Serves, nothing, first, Follows, AnswersInWords, no-more, taken, turned-away, Struck}
 use Rattle.method.specs.words.Rules.{Opens}
 use Rattle.method.specs.laws.Stages.{Reported}
+use Rattle.method.specs.computed.Opening.{ids}
 use Rattle.method.specs.computed.Shift.{onward, after}
 use Rattle.method.specs.computed.Event.{read, verdict, applied, next}
 use Rattle.method.specs.computed.Relation.{Calls, Right, Answers, reached}

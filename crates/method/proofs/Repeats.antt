@@ -17,7 +17,7 @@ use Rattle.method.specs.computed.Event.{price-of, read, verdict, with-bo
 use Rattle.method.specs.computed.Relation.{time}
 use Rattle.method.specs.computed.Sound.{Exact}
 use Rattle.method.proofs.Every.{every-map, every-weaker}
-use Rattle.method.proofs.Exact.{judged-again}
+use Rattle.method.proofs.Exact.{judge-line-same}
 use Rattle.method.proofs.Events.{not-accepted}
 use Rattle.method.proofs.HoldLife.{Judged}
 use Rattle.method.proofs.EventAnswered.{the-quote, read-tick-is, read-quote-is}
@@ -66,7 +66,7 @@ still-after e (c ∷ cs) s h = still-after e cs (onward s c) (still-onward e s c
 module _ (near : Millionths) (left : ℕ) (q : Quote) where
   line-same : (l : Line) → Exact near left l → l .book ≡ book-of q → quoted-line near left q l ≡ l
   unfolding quoted-line
-  line-same l x e = ap (judge-line near left (q .time)) book ∙ judged-again near left (q .time) l x
+  line-same l x e = ap (judge-line near left (q .time)) book ∙ judge-line-same near left (q .time) l x
     where
       book : with-book l (q .bid) (q .ask) ≡ l
       book = λ i. record { terms = l .terms; market = l .market; limits = l .limits; book = sym e i; holds = l .holds }

@@ -10,10 +10,10 @@ use Rattle.numbers.proofs.Halves.{zarith, apart, add-is}
 use Rattle.numbers.proofs.Linear.{≤ℤ-trans}
 use Rattle.numbers.proofs.Ranges.{within-more, within-pos, within-add, within-sub, within-mul, floor-within, ceiling-within, within-squeeze}
 use Rattle.method.specs.words.Types.{Side, Up, Down, Seconds, Millionths, Terms, Market, Limits, Absent, Book, Hold, Idle, Since, Holds, Line, steps}
-use Rattle.method.specs.words.Ranges.{longest-session, most-shifts, largest-price}
+use Rattle.method.specs.words.Ranges.{longest-session, most-shifts}
 use Rattle.method.specs.words.Bounds.{market-bound, factor, interest, bound}
 use Rattle.method.specs.computed.Types.{Watch, Quote}
-use Rattle.method.specs.computed.Judge.{judged, may-hold, judge, watch-of, judge-line}
+use Rattle.method.specs.computed.Judge.{judged, to-hold, judge, watch-of, judge-line}
 use Rattle.method.specs.computed.Shift.{toward, moved, ended, moved-line, shift-line}
 use Rattle.method.specs.computed.Event.{quoted-line}
 use Rattle.method.specs.computed.Rooms.{largest-half-move, reach, largest-factor, largest-market-bound, largest-bound, FactorsIn, LineIn, MarketRoom, PriceIn, HoldIn, HoldsIn, Room}
@@ -114,13 +114,13 @@ judged-in now false h e i = tt
 judged-in now true Idle e i = e
 judged-in now true (Since start) e i = i
 
-judge-in : (w : Watch) (near : Millionths) (left : ℕ) (now : Seconds) (k : Limits) (b : Book) (h : Holds) → now .0 ≤ longest-session → HoldsIn h
+pub judge-in : (w : Watch) (near : Millionths) (left : ℕ) (now : Seconds) (k : Limits) (b : Book) (h : Holds) → now .0 ≤ longest-session → HoldsIn h
     → HoldsIn (judge w near left now k b h)
 unfolding judge
 judge-in w near left now k b h e i =
     record {
-      up = judged-in now (may-hold Up w near left k b) (h .up) e (i .up);
-      down = judged-in now (may-hold Down w near left k b) (h .down) e (i .down);
+      up = judged-in now (to-hold Up w near left k b) (h .up) e (i .up);
+      down = judged-in now (to-hold Down w near left k b) (h .down) e (i .down);
     }
 
 room-judged : (near : Millionths) (left : ℕ) (now : Seconds) {n : ℕ} {l : Line} → now .0 ≤ longest-session → Room n l → Room n (judge-line near left now l)
@@ -159,24 +159,16 @@ room-quoted near left q h bid ask r =
     room-judged near left (q .time) h
     (record { terms = r .terms; market = r .market; limits = r .limits; book = record { bid = bid; ask = ask }; holds = r .holds })
 
-half-opened : {left : ℕ} {h : ℤ} → left ≤ most-shifts → Span (pos 1) (pos largest-price) h → Span (pos 1) (pos (reach left)) h
-half-opened few r = record { least = r .least; most = omega (zarith, r .most) }
-
 absent-in : PriceIn Absent
 unfolding PriceIn
 absent-in = tt
 
 pub room-opened : {left : ℕ} {l : Line} → left ≤ most-shifts → LineIn l → Room left l
 room-opened few o =
-    record {
+    room-fewer few
+    (record {
       terms = o .terms;
-      market =
-          record {
-            centre = within-more (o .market .centre) (omega arith);
-            half1 = half-opened few (o .market .half1);
-            half2 = half-opened few (o .market .half2);
-            half3 = half-opened few (o .market .half3);
-          };
+      market = record { centre = o .market .centre; half1 = o .market .half1; half2 = o .market .half2; half3 = o .market .half3 };
       limits =
           record {
             upper = o .limits .upper;
@@ -186,4 +178,4 @@ room-opened few o =
           };
       book = rw (o .book) (record { bid = absent-in; ask = absent-in });
       holds = rw (o .holds) (record { up = idle-in; down = idle-in });
-    }
+    })

@@ -14,7 +14,8 @@ use Rattle.method.specs.words.Rules.{Opens, EverySession}
 use Rattle.method.specs.laws.Seen.{Caller, Timely, AtOnce}
 use Rattle.method.specs.laws.Stages.{Stage, Begun, Throughout}
 use Rattle.method.specs.laws.Rule2.{OneSession, EventAtOnce, NothingLeft, NoneMissed, HoldsStandExactly, HoldsStandBetween, InOrder, EachLineCalledFor, EachLineReported, ShiftsCounted, AtMostSixteen, Rule2, AtMostOne, WheneverLooked, AtOpening, TableKept}
-use Rattle.method.specs.computed.Shift.{after, most-left}
+use Rattle.method.specs.computed.Head.{most-left}
+use Rattle.method.specs.computed.Shift.{after}
 use Rattle.method.specs.computed.Event.{read, next}
 use Rattle.method.specs.computed.Relation.{Calls, time, Right}
 use Rattle.method.specs.computed.Search.{run, finally}

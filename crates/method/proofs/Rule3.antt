@@ -8,7 +8,7 @@ use native.Mathlib.Omega.{arith}
 use lib.IntN.{ℤ, pos, _+ℤ_, _-ℤ_}
 use lib.Signed.{_≤ℤ_, _<ℤ_}
 use Rattle.numbers.proofs.Halves.{zarith, add-is, sub-is}
-use Rattle.method.specs.words.Types.{Side, Up, Down, Line, ShiftLine, State, steps, ids}
+use Rattle.method.specs.words.Types.{Side, Up, Down, Line, ShiftLine, State, steps}
 use Rattle.method.specs.words.Ranges.{permits-negative}
 use Rattle.method.specs.words.Bounds.{bound}
 use Rattle.method.specs.words.Sessions.{Answer, joined, AnswersInWords}
@@ -16,7 +16,8 @@ use Rattle.method.specs.words.Margins.{margin, FloorMet, at-opening, in-
 use Rattle.method.specs.words.Rules.{Opens, Moment, start, Centres, HalfWidthsGrow, ShiftsWithin, NeverInward, UpperInside, LowerInside}
 use Rattle.method.specs.laws.Seen.{Shifted, StaysFrozen}
 use Rattle.method.specs.laws.Rule3.{FrozenTells, FrozenForGood, OnlyOutward, LinesShifted, OneLine, AnswersLead, ShiftsLead}
-use Rattle.method.specs.computed.Shift.{most-left}
+use Rattle.method.specs.computed.Opening.{ids}
+use Rattle.method.specs.computed.Head.{most-left}
 use Rattle.method.specs.computed.Later.{Later}
 use Rattle.method.specs.computed.Rooms.{OpeningIn, Room}
 use Rattle.method.specs.computed.Sound.{Distinct, Proper}

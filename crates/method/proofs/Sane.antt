@@ -5,7 +5,8 @@ use native.Mathlib.Omega.{arith}
 use Rattle.method.specs.words.Types.{Side, Seconds, State, EventAnswer}
 use Rattle.method.specs.words.Ranges.{longest-session}
 use Rattle.method.specs.computed.Types.{Event, Damaged, Tick, Quoted}
-use Rattle.method.specs.computed.Shift.{shift-line, shifted, most-left}
+use Rattle.method.specs.computed.Head.{most-left}
+use Rattle.method.specs.computed.Shift.{shift-line, shifted}
 use Rattle.method.specs.computed.Event.{verdict, applied}
 use Rattle.method.specs.computed.Rooms.{LineIn, OpeningIn, Room, Sane, EventIn}
 use Rattle.method.proofs.Every.{every-map, every-weaker}

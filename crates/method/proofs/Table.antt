@@ -16,7 +16,7 @@ use Rattle.method.specs.words.Tables.{opened, refused, opening-state}
 use Rattle.method.specs.computed.Types.{LineAnswer}
 use Rattle.method.specs.computed.Opening.{open-line}
 use Rattle.method.specs.computed.Table.{header-good, laid-out, key-good, bad-key, if-opened, open-lines, if-keys-good, open-records, opening}
-use Rattle.method.specs.computed.Shift.{most-left}
+use Rattle.method.specs.computed.Head.{most-left}
 use Rattle.method.specs.computed.Rooms.{LineIn, OpeningIn}
 use Rattle.method.proofs.Every.{every-last}
 use Rattle.method.proofs.Demands.{met-by}

@@ -4,6 +4,7 @@ pub mod Equal
 pub mod Types
 pub mod Opening
 pub mod Table
+pub mod Head
 pub mod Judge
 pub mod Shift
 pub mod Event

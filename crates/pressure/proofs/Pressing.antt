@@ -14,7 +14,7 @@ use Rattle.method.specs.words.Pressure.{price}
 use Rattle.method.specs.computed.Rooms.{largest-limit, PriceIn, BookIn, Room}
 use Rattle.method.proofs.Rooms.{upper-in, lower-in}
 use Rattle.pressure.specs.Names.{Side, Up, Down, Steps, Millionths, Limits, Price, Given, Book, Line}
-use Rattle.pressure.specs.Asks.{LimitsWithin, Apart, Pressed}
+use Rattle.pressure.specs.Asks.{LimitsWithin, Apart, JudgeableLine}
 
 module _ {near : ℕ} {k : Limits} {a b : ℤ} (q : Apart near k a b) where
   pub distance-fits : SFits w64 (a -ℤ b)
@@ -48,5 +48,5 @@ module _ {n : ℕ} {l : Line} (r : Room n l) where
   pub room-limits : LimitsWithin (l .limits)
   room-limits = record { upper = within-more (upper-in r) (lit≤ tt); lower = within-more (lower-in r) (lit≤ tt) }
 
-  pub room-pressed : {near : Millionths} → near .0 ≤ largest-near-share → Pressed near l
-  room-pressed h = record { share = h; limits = room-limits; book = r .book }
+  pub room-judgeable : {near : Millionths} → near .0 ≤ largest-near-share → JudgeableLine near l
+  room-judgeable h = record { share = h; limits = room-limits; book = r .book }

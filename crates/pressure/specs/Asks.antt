@@ -29,5 +29,5 @@ pub record Judgeable (near : Millionths) (k : Limits) (b : Book) : Type 0 where
   pub limits : LimitsWithin k
   pub book : BookIn b
 
-abbrev pub Pressed : Millionths → Line → Type 0
-Pressed near l = Judgeable near (l .limits) (l .book)
+abbrev pub JudgeableLine : Millionths → Line → Type 0
+JudgeableLine near l = Judgeable near (l .limits) (l .book)

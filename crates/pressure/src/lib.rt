@@ -4,7 +4,7 @@ ghost use mathlib.Core.Path.{_≡_};
 ghost use lib.IntN.{_-ℤ_};
 ghost use Rattle.method.specs.words.Pressure.{near-by, close, price, under-pressure, presses};
 ghost use Rattle.method.specs.computed.Judge.{judged, judge, judge-line};
-ghost use Rattle.pressure.specs.Asks.{Apart, Tested, Judgeable, Pressed};
+ghost use Rattle.pressure.specs.Asks.{Apart, Tested, Judgeable, JudgeableLine};
 use method::Book;
 use method::Hold;
 use method::Holds;
@@ -113,7 +113,7 @@ pub fn judge(
 // ---- a line
 
 pub fn presses(side: Side, near: Millionths, l: Line) -> bool
-    requires { ⌜ Pressed near l ⌝ }
+    requires { ⌜ JudgeableLine near l ⌝ }
     ensures { λ r. ⌜ r ≡ presses side near l ⌝ }
 {
     let k = l.limits;
@@ -122,7 +122,7 @@ pub fn presses(side: Side, near: Millionths, l: Line) -> bool
 }
 
 pub fn judge_line(near: Millionths, left: u32, now: Seconds, l: Line) -> Line
-    requires { ⌜ Pressed near l ⌝ }
+    requires { ⌜ JudgeableLine near l ⌝ }
     ensures { λ r. ⌜ r ≡ judge-line near left now l ⌝ }
 {
     let watched = wire::bit_1(l.terms.flags);

@@ -6,14 +6,15 @@ use Prim.Native.Nat.{ℕ}
 use native.Mathlib.Omega.{arith}
 use lib.Dec.{eqb}
 use lib.ListN.{getD}
-use Rattle.method.specs.words.Types.{State, blank, ids}
+use Rattle.method.specs.words.Types.{State, blank}
 use Rattle.method.specs.words.Ranges.{Every}
 use Rattle.method.specs.told.Questions.{listed, known, line-of, limits, placed, place, demand}
 use Rattle.method.specs.told.Report.{line-report, report}
-use Rattle.method.specs.computed.Shift.{most-left}
+use Rattle.method.specs.computed.Opening.{ids}
+use Rattle.method.specs.computed.Head.{most-left}
 use Rattle.method.specs.computed.Rooms.{Room, Sane}
 use Rattle.method.proofs.Rooms.{room-fewer}
-use Rattle.method.proofs.Head.{left-most}
+use Rattle.method.proofs.Head.{left-within}
 use Rattle.questions.specs.Names.{Steps, Line, EventReason, LimitsAnswer, PlaceAnswer, ReportAnswer, Session}
 use Rattle.questions.specs.declared.Sought.{Sought}
 use Rattle.corridor.specs.View.{view, Valid}
@@ -50,7 +51,7 @@ sought-every P id s l h e = go (known id s) refl e
 
 -- so it has room for the shifts that are left
 pub sought-room : (id : ℕ) (s : State) (l : Line) → Sane s → Sought.At l ≡ sought id s → Room (s .left) l
-sought-room id s l v e = room-fewer (left-most s) (sought-every (Room (most-left s)) id s l (v .rooms) e)
+sought-room id s l v e = room-fewer (left-within s) (sought-every (Room (most-left s)) id s l (v .rooms) e)
 
 -- ---- the answers, from the line that was sought
 abbrev by-sought : {A : Type 0} → A → (Line → A) → Sought → A

@@ -9,8 +9,9 @@ use borrow.Author.Tests.{eq-eqb, ne-eqb}
 use lib.ListN.{length, getD, drop}
 use lib.Seq.{getD-take}
 use Rattle.numbers.proofs.Arrays.{passing, all-passed}
-use Rattle.method.specs.words.Types.{blank, ids}
+use Rattle.method.specs.words.Types.{blank}
 use Rattle.method.specs.told.Questions.{listed, known, line-of}
+use Rattle.method.specs.computed.Opening.{ids}
 use Rattle.corridor.specs.View.{view, Valid}
 use Rattle.corridor.proofs.Views.{view-length}
 use Rattle.corridor.proofs.Named.{Named, named-below}

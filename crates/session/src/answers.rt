@@ -6,7 +6,7 @@ ghost use lib.ListN.{length};
 ghost use Rattle.method.specs.declared.Row.the-variants as RowOf;
 ghost use Rattle.method.specs.told.Text.{line-text};
 ghost use Rattle.corridor.specs.View.{Valid};
-ghost use Rattle.closing.specs.Closing.{closing-needs};
+ghost use Rattle.counting.specs.Counted.{most-closing};
 ghost use Rattle.feeding.specs.Feeding.{feed-needs, left-by};
 ghost use Rattle.session.specs.Printing.{told-text, closing-text, Begins};
 use corridor::Session;
@@ -25,7 +25,7 @@ pub(crate) fn chunk(s: Session, events: &[u8], numbers: &mut [i64], buffer: &mut
     ensures { λ r. ⌜ r .session ≡ left-by s (now (events .entry)) ⌝ }
     ensures { λ r. ⌜ Begins (now (buffer .exit)) (r .size) (told-text s (now (events .entry))) ⌝ }
 {
-    let a = counting::fed(s, events, numbers);
+    let a = counting::counted(s, events, numbers);
     let count = a.count;
     let size = text::lines(&numbers[..count], buffer);
     let session = a.session;
@@ -37,7 +37,7 @@ pub(crate) fn chunk(s: Session, events: &[u8], numbers: &mut [i64], buffer: &mut
 
 // The closing lines.
 pub(crate) fn closing(s: Session, numbers: &mut [i64], buffer: &mut [u8]) -> usize
-    requires { ⌜ Valid s × (closing-needs ≤ length (now numbers)) × (20 * closing-needs ≤ length (now buffer)) ⌝ }
+    requires { ⌜ Valid s × (most-closing ≤ length (now numbers)) × (20 * most-closing ≤ length (now buffer)) ⌝ }
     ensures { λ r. ⌜ Begins (now (buffer .exit)) r (closing-text s) ⌝ }
 {
     let count = counting::closed(s, numbers);

@@ -7,8 +7,8 @@ use Rattle.method.specs.computed.Shift.{moved-line}
 use Rattle.method.specs.computed.Event.{with-book}
 use Rattle.method.specs.computed.Rooms.{PriceIn, HoldsIn, Room}
 use Rattle.method.proofs.Rooms.{span-within, room-moved}
-use Rattle.pressure.specs.Asks.{Pressed}
-use Rattle.pressure.proofs.Pressing.{room-limits, room-pressed}
+use Rattle.pressure.specs.Asks.{JudgeableLine}
+use Rattle.pressure.proofs.Pressing.{room-limits, room-judgeable}
 use Rattle.shifts.specs.Names.{Side, Millionths, Price, Line}
 use Rattle.shifts.specs.Asks.{Shiftable, Shifts}
 
@@ -34,12 +34,12 @@ module _ {near : Millionths} {left : ℕ} {l : Line} (q : Shifts near left l) wh
         limits = room-limits (q .room);
       }
 
-  pub shifts-pressed : (side : Side) → Pressed near (moved-line side l)
-  shifts-pressed side = room-pressed (room-moved side (q .few) (q .room)) (q .share)
+  pub shifts-judgeable : (side : Side) → JudgeableLine near (moved-line side l)
+  shifts-judgeable side = room-judgeable (room-moved side (q .few) (q .room)) (q .share)
 
 -- ---- what a quote and the search ask
 pub room-quotes : (near : Millionths) (bid ask : Price) {left : ℕ} {l : Line} → near .0 ≤ largest-near-share → PriceIn bid → PriceIn ask → Room left l
-    → Pressed near (with-book l bid ask)
+    → JudgeableLine near (with-book l bid ask)
 room-quotes near bid ask h b a r = record { share = h; limits = room-limits r; book = record { bid = b; ask = a } }
 
 pub room-passes : {wait : ℕ} {left : ℕ} {l : Line} → wait ≤ longest-hold → Room left l → HoldsIn (l .holds) × (wait ≤ longest-hold)

@@ -5,7 +5,7 @@ ghost use Rattle.numbers.specs.Ranges.{Within};
 ghost use Rattle.method.specs.computed.Shift.{toward, moved, redrawn, ended, moved-line, shift-line};
 ghost use Rattle.method.specs.computed.Event.{with-book, quoted-line};
 ghost use Rattle.method.specs.computed.Rooms.{largest-half-move, reach};
-ghost use Rattle.pressure.specs.Asks.{Pressed};
+ghost use Rattle.pressure.specs.Asks.{JudgeableLine};
 ghost use Rattle.shifts.specs.Asks.{Movable, Carried, Redrawable, Shiftable, Shifts, raised-by, lowered-by};
 use bounds::limits;
 use method::Book;
@@ -126,7 +126,7 @@ pub fn shift_line(near: Millionths, left: u32, side: Side, now: Seconds, l: Line
 
 // A line after its quote: both standing prices replaced, and its pressure judged anew.
 pub fn quoted_line(near: Millionths, left: u32, q: Quote, l: Line) -> Line
-    requires { ⌜ Pressed near (with-book l (q .bid) (q .ask)) ⌝ }
+    requires { ⌜ JudgeableLine near (with-book l (q .bid) (q .ask)) ⌝ }
     ensures { λ r. ⌜ r ≡ quoted-line near left q l ⌝ }
 {
     let bid = q.bid;

@@ -26,12 +26,12 @@ use Rattle.corridor.specs.declared.OpenReply.{OpenReply}
 use Rattle.rows.specs.declared.RowsAnswer.{RowsAnswer}
 use Rattle.corridor.specs.View.{view, no-session, opened-session, Valid}
 use Rattle.feeding.specs.Feeding.{answers-told, told, left-by}
-use Rattle.closing.specs.Closing.{closing-needs, closing-numbers}
+use Rattle.closing.specs.Closing.{closing-numbers}
 use Rattle.corridor.proofs.Views.{view-put}
 use Rattle.corridor.proofs.Theorems.{valid-opened}
 use Rattle.feeding.proofs.Chunks.{told-fits, valid-left}
-use Rattle.counting.specs.declared.Counted.{Counted}
-use Rattle.counting.specs.Counted.{counted}
+use Rattle.counting.specs.declared.Tally.{Tally}
+use Rattle.counting.specs.Counted.{counted, most-closing}
 use Rattle.counting.proofs.Answering.{closing-few}
 use Rattle.sundewcup.specs.Running.{run-needs, rows-told, ran, ran-into}
 
@@ -113,12 +113,12 @@ module _ (table events : List ℕ) (out : List ℤ) (enough : run-needs (length 
     fits : length (told first events) + length closing ≤ length out
     fits = omega (arith, told-fits first events first-valid, closing-few last last-valid)
 
-    module _ (a : Counted) (ea : a ≡ counted first events) {now : List ℤ} (en : now ≡ written out 0 (told first events)) where
+    module _ (a : Tally) (ea : a ≡ counted first events) {now : List ℤ} (en : now ≡ written out 0 (told first events)) where
       abbrev at : ℕ
       at = a .count
 
       at-is : at ≡ length (told first events)
-      at-is = ap (λ (z : Counted). z .count) ea
+      at-is = ap (λ (z : Tally). z .count) ea
 
       pub told-long : length now ≡ length out
       told-long = ap length en ∙ written-long out 0 (told first events) (omega (arith, fits))
@@ -126,7 +126,7 @@ module _ (table events : List ℕ) (out : List ℤ) (enough : run-needs (length 
       pub told-last : Valid (a .session)
       told-last = rw ea last-valid
 
-      pub at-inside : at + closing-needs ≤ length out
+      pub at-inside : at + most-closing ≤ length out
       at-inside = omega (arith, at-is, told-fits first events first-valid)
 
       -- the part that is lent for the closing rows is all that is left
@@ -136,14 +136,14 @@ module _ (table events : List ℕ) (out : List ℤ) (enough : run-needs (length 
       part-is : part ≡ drop at now
       part-is = take-all (length now - at) (drop at now) (omega (arith, length-drop at now))
 
-      pub part-long : closing-needs ≤ length part
+      pub part-long : most-closing ≤ length part
       part-long = rw part-is (omega (arith, length-drop at now, told-long, at-inside))
 
       none-after : drop (length now - at) (drop at now) ≡ []
       none-after = drop-of-length-le (drop at now) {i = length now - at} (omega (arith, length-drop at now))
 
       closing-is : closing-numbers (a .session) ≡ closing
-      closing-is = ap (λ (z : Counted). closing-numbers (z .session)) ea
+      closing-is = ap (λ (z : Tally). closing-numbers (z .session)) ea
 
       module _ {n : ℕ} (e : n ≡ length (closing-numbers (a .session))) where
         pub opened-small : at + n ≤ length out

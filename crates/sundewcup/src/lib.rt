@@ -30,7 +30,7 @@ pub fn run(table: &[u8], events: &[u8], out: &mut [i64]) -> RowsAnswer
         }
         TableAnswer::Opened => {
             let session = o.session;
-            let a = counting::fed(session, events, out);
+            let a = counting::counted(session, events, out);
             let at = a.count;
             let last = a.session;
             let more = counting::closed(last, &mut out[at..]);

@@ -8,9 +8,9 @@ use borrow.Author.Tests.{lt-ltb, eq-eqb, ne-eqb}
 use lib.Dec.{ltb}
 use lib.ListN.{length, getD, take, drop}
 use Rattle.numbers.proofs.Arrays.{passing, all-passed}
-use Rattle.method.specs.words.Types.{blank, ids}
+use Rattle.method.specs.words.Types.{blank}
 use Rattle.method.specs.told.Questions.{listed}
-use Rattle.method.specs.computed.Opening.{id-good}
+use Rattle.method.specs.computed.Opening.{id-good, ids}
 use Rattle.table.specs.Names.{Line}
 
 abbrev pub Unmet : ℕ → List Line → ℕ → ℕ → Type 0

@@ -14,7 +14,7 @@ use Rattle.method.specs.computed.Opening.{open-line}
 use Rattle.method.specs.computed.Table.{open-lines}
 use Rattle.table.specs.Names.{Header, Key, Contract, Line, LineAnswer, TableAnswer, TableReason}
 use Rattle.table.specs.declared.TableReply.{TableReply}
-use Rattle.table.specs.Reply.{opened-as}
+use Rattle.table.specs.TableReply.{opened-as}
 
 -- the contracts from the i-th on, of `count`
 abbrev from-line : List ℕ → ℕ → ℕ → ℕ → List Contract

@@ -1,3 +1,3 @@
 pub mod Names
-pub mod Reply
+pub mod TableReply
 pub mod Asks

@@ -9,7 +9,7 @@ ghost use Rattle.method.specs.words.Ranges.{most-contracts};
 ghost use Rattle.method.specs.words.Tables.{refused};
 ghost use Rattle.method.specs.computed.Opening.{id-good, open-line};
 ghost use Rattle.method.specs.computed.Table.{open-lines, opening};
-ghost use Rattle.table.specs.Reply.{opened-as};
+ghost use Rattle.table.specs.TableReply.{opened-as};
 ghost use Rattle.table.specs.Asks.{Ready, Lined};
 use method::Book;
 use method::Contract;

@@ -9,7 +9,7 @@ use Rattle.method.specs.told.Questions.{place}
 use Rattle.numbers.proofs.Deciding.{granted}
 use Rattle.corridor.specs.View.{view}
 use Rattle.host_memory.specs.Memory.{session-in}
-use Rattle.host_questions.specs.Asked.{place-number}
+use Rattle.host_questions.specs.AskedNumbers.{place-number}
 use Rattle.host.proofs.Refusing.{tells, denies}
 use Rattle.host.proofs.sundewcup_place.Statement.{statement}
 use Rattle.host.proofs.sundewcup_place.Tie as tie

@@ -8,7 +8,7 @@ use Rattle.method.specs.words.Types.{steps}
 use Rattle.method.specs.told.Questions.{place}
 use Rattle.corridor.specs.View.{view}
 use Rattle.host_memory.specs.Memory.{session-in}
-use Rattle.host_questions.specs.Asked.{place-number}
+use Rattle.host_questions.specs.AskedNumbers.{place-number}
 use Rattle.host.proofs.sundewcup_place_unchecked.Statement.{statement}
 use Rattle.host.proofs.sundewcup_place_unchecked.Tie as tie
 

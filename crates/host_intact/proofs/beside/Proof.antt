@@ -1,7 +1,7 @@
 -- `host_intact::beside` meets its contract. Assumes nothing.
 use borrow.Author.Needs.{needs}
 use mathlib.Core.Path.{sym}
-use Rattle.method.specs.computed.Shift.{most-left}
+use Rattle.method.specs.computed.Head.{most-left}
 use Rattle.host_memory.specs.Memory.{session-in}
 use Rattle.host_intact.proofs.beside.Statement.{statement}
 use Rattle.host_intact.proofs.beside.Tie as tie

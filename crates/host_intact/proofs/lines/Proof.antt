@@ -10,7 +10,7 @@ use lib.ListN.{length, getD}
 use Rattle.method.specs.words.Types.{blank}
 use Rattle.numbers.proofs.Deciding.{kept, broken}
 use Rattle.method.specs.words.Ranges.{most-shifts, largest-near-share}
-use Rattle.method.specs.computed.Shift.{most-left}
+use Rattle.method.specs.computed.Head.{most-left}
 use Rattle.host_line.proofs.Whole.{Rows}
 use Rattle.corridor.specs.declared.Session.{Session}
 use Rattle.corridor.specs.View.{view}

@@ -14,7 +14,7 @@ use Rattle.method.specs.computed.Search.{passed, earliest, in-time, next-due}
 use Rattle.method.specs.computed.Rooms.{HoldsIn}
 use Rattle.method.specs.computed.Sound.{Distinct}
 use Rattle.method.specs.declared.Found.the-variants.{Nothing}
-use Rattle.host_line.proofs.Whole.{nothing-at}
+use Rattle.method.proofs.FirstFound.{nothing-at}
 use Rattle.corridor.specs.declared.Session.{Session}
 use Rattle.corridor.specs.View.{view}
 use Rattle.corridor.proofs.Due.{Passed, passed-turn, passed-all}

@@ -9,7 +9,7 @@ use Rattle.method.specs.told.Questions.{placed}
 use Rattle.corridor.specs.View.{view}
 use Rattle.questions.specs.declared.Sought.{Sought}
 use Rattle.host_memory.specs.Memory.{session-in}
-use Rattle.host_questions.specs.Asked.{place-number}
+use Rattle.host_questions.specs.AskedNumbers.{place-number}
 use Rattle.questions.proofs.Asking.{place-by}
 use Rattle.host_questions.proofs.place.Statement.{statement}
 use Rattle.host_questions.proofs.place.Tie as tie

@@ -1,7 +1,7 @@
 -- `host_questions::place_number` meets its contract. Assumes nothing.
 use borrow.Author.Needs.{needs}
 use mathlib.Core.Path.{sym, ap, _∙_}
-use Rattle.host_questions.specs.Asked.{place-number}
+use Rattle.host_questions.specs.AskedNumbers.{place-number}
 use Rattle.host_questions.proofs.Answers.{number-of-row}
 use Rattle.host_questions.proofs.place_number.Statement.{statement}
 use Rattle.host_questions.proofs.place_number.Tie as tie

@@ -5,7 +5,7 @@ use denote.Ref.{now}
 use lib.ListN.{getD}
 use Rattle.method.specs.words.Types.{blank}
 use Rattle.method.specs.computed.Event.{with-book, quoted-line}
-use Rattle.pressure.specs.Asks.{Pressed}
+use Rattle.pressure.specs.Asks.{JudgeableLine}
 use Rattle.corridor.specs.View.{with-line}
 use Rattle.host_session.specs.Names.{Session}
 use Rattle.host_memory.specs.Memory.{session-of, session-in}
@@ -45,7 +45,7 @@ module _ (c : tie.After-line) where
 quoted-line-requires : tie.Need-quoted-line-requires
 quoted-line-requires c κs =
     let q = start c .args .q in
-    subst (λ (z : Type 0). z) (λ j. Pressed (read c j .near) (with-book (line-read c j) (q .bid) (q .ask))) (start c .pre .2)
+    subst (λ (z : Type 0). z) (λ j. JudgeableLine (read c j .near) (with-book (line-read c j) (q .bid) (q .ask))) (start c .pre .2)
 
 with-line-requires : tie.Need-with-line-requires
 with-line-requires c κs = search needs

@@ -13,8 +13,9 @@ use Rattle.method.specs.words.Ranges.{largest-quote}
 use Rattle.method.specs.words.Sessions.{Answer, accepted, refused}
 use Rattle.method.specs.told.Questions.{known, demand}
 use Rattle.method.specs.computed.Types.{Quote, Event, Damaged, Tick, Quoted}
+use Rattle.method.specs.computed.Head.{with-lines}
 use Rattle.method.specs.computed.Judge.{judge-line}
-use Rattle.method.specs.computed.Shift.{with-lines, after}
+use Rattle.method.specs.computed.Shift.{after}
 
 -- ---- what a byte string says
 -- a price field, present or absent

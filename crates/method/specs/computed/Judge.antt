@@ -18,13 +18,13 @@ abbrev pub watched : Side → Watch → Bool
 watched Up w = w .up
 watched Down w = w .down
 
--- whether a side may have a hold: it is under pressure, while `left` shifts may still be made (METHOD 14.5)
-abbrev pub may-hold : Side → Watch → Millionths → ℕ → Limits → Book → Bool
-may-hold side w near left k b = ltb 0 left && under-pressure (watched side w) side near k b
+-- whether a side is to have a hold: it is under pressure, and of the shifts that may be made now some are left (METHOD 14.5, 14.7)
+abbrev pub to-hold : Side → Watch → Millionths → ℕ → Limits → Book → Bool
+to-hold side w near left k b = ltb 0 left && under-pressure (watched side w) side near k b
 
 unfoldable pub judge : Watch → Millionths → ℕ → Seconds → Limits → Book → Holds → Holds
 judge w near left now k b h =
-    record { up = judged now (may-hold Up w near left k b) (h .up); down = judged now (may-hold Down w near left k b) (h .down) }
+    record { up = judged now (to-hold Up w near left k b) (h .up); down = judged now (to-hold Down w near left k b) (h .down) }
 
 -- ---- of a line
 abbrev pub watch-of : Line → Watch

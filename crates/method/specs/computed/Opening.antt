@@ -1,12 +1,12 @@
 -- One contract opened from its ten fields, or refused with 5, 6, 7, 8 or 9, test by test (METHOD 11.6).
 use mathlib.Core.Bool.{Bool, _&&_, not, _||_}
-use mathlib.Core.List.{List}
+use mathlib.Core.List.{List, map}
 use Prim.Native.Nat.{ℕ}
 use lib.Dec.{ltb, leb}
 use lib.IntN.{pos}
 use lib.Signed.{leZ}
 use Rattle.numbers.specs.Tests.{in-span, in-range, between}
-use Rattle.method.specs.words.Types.{Millionths, Key, Contract, Up, Down, Terms, Market, Limits, Line, TableReason, ids}
+use Rattle.method.specs.words.Types.{Millionths, Key, Contract, Up, Down, Terms, Market, Limits, Line, TableReason}
 use Rattle.method.specs.words.Ranges.{whole, most-days, largest-price, permits-negative}
 use Rattle.method.specs.words.Growth.{most-exponent}
 use Rattle.method.specs.words.Bounds.{bound}
@@ -26,6 +26,9 @@ fields-good c =
     in-span largest-price (c .price .0) && (permits-negative (c .flags) || leZ (pos 1) (c .price .0)) && in-span largest-price (c .spot .0)
     && between (pos 1) (pos largest-price) (c .least .0) && rates-good c && leb (c .width .0) whole && leb (c .days) most-days
     && ltb (c .flags) 4
+
+abbrev pub ids : List Line → List ℕ
+ids ls = map (λ (l : Line). l .terms .id) ls
 
 unfoldable pub id-good : List Line → ℕ → Bool
 id-good earlier id = ltb 0 id && not (listed id (ids earlier))

@@ -11,19 +11,20 @@ use Rattle.method.specs.words.Types.{Up, Down, Terms, Market, Limits, Pr
 use Rattle.method.specs.words.Ranges.{most-contracts, longest-session, longest-hold, most-shifts, largest-near-share, largest-price, largest-quote, permits-negative, Every}
 use Rattle.method.specs.words.Bounds.{bound}
 use Rattle.method.specs.computed.Types.{Event, Damaged, Tick, Quoted}
-use Rattle.method.specs.computed.Shift.{most-left}
+use Rattle.method.specs.computed.Head.{most-left}
 
 -- ---- bounds that follow from the ends that the words name; by them the code's sums and products fit
 -- of a half-move: half the largest half-width, at a shift share of the whole
 abbrev pub largest-half-move : ℕ
 largest-half-move = largest-price / 2
 
--- How far a centre and a half-width reach while `left` shifts are left: the largest price at opening, and at most a half-move further by each shift.
+-- How far a centre and a half-width reach while `most` shifts may still be made: the largest price at opening, and at most a half-move further by
+-- each shift.
 abbrev pub largest-reach : ℕ
 largest-reach = largest-price + largest-half-move * most-shifts
 
 abbrev pub reach : ℕ → ℕ
-reach left = largest-reach - largest-half-move * left
+reach most = largest-reach - largest-half-move * most
 
 -- the factors, up to the cap on the exponent (`factors-in`)
 abbrev pub largest-factor : ℕ
@@ -39,7 +40,7 @@ largest-market-bound = 2 * largest-reach
 abbrev pub largest-bound : ℕ
 largest-bound = largest-market-bound * largest-factor / 1_000_000_000
 
--- How far from 0 a limit may lie where pressure is judged. No contract's goes beyond the largest bound; up to here the products fit.
+-- ---- how far from 0 a limit may lie where pressure is judged: up to here the products fit 64 bits. No contract's limit goes beyond the largest bound.
 abbrev pub largest-limit : ℕ
 largest-limit = 1_000_000_000_000
 
@@ -91,12 +92,12 @@ pub record OpeningIn (s : State) : Type 0 where
   pub left : most-left s ≤ most-shifts
   pub near : Between 1 largest-near-share (s .near .0)
 
--- ---- a line while `left` shifts may still be made in all; room for more of them is room for fewer (`room-fewer`)
-pub record MarketRoom (left : ℕ) (m : Market) : Type 0 where
-  pub centre : Within (reach left) (m .centre .0)
-  pub half1 : Span (pos 1) (pos (reach left)) (m .half1 .0)
-  pub half2 : Span (pos 1) (pos (reach left)) (m .half2 .0)
-  pub half3 : Span (pos 1) (pos (reach left)) (m .half3 .0)
+-- ---- a line while `most` shifts may still be made in all; room for more of them is room for fewer (`room-fewer`)
+pub record MarketRoom (most : ℕ) (m : Market) : Type 0 where
+  pub centre : Within (reach most) (m .centre .0)
+  pub half1 : Span (pos 1) (pos (reach most)) (m .half1 .0)
+  pub half2 : Span (pos 1) (pos (reach most)) (m .half2 .0)
+  pub half3 : Span (pos 1) (pos (reach most)) (m .half3 .0)
 
 pub record LimitsRoom (t : Terms) (m : Market) (k : Limits) : Type 0 where
   pub upper : (k .upper .0) ≤ℤ (bound Up t m)
@@ -121,9 +122,9 @@ pub record HoldsIn (h : Holds) : Type 0 where
   pub up : HoldIn (h .up)
   pub down : HoldIn (h .down)
 
-pub record Room (left : ℕ) (l : Line) : Type 0 where
+pub record Room (most : ℕ) (l : Line) : Type 0 where
   pub terms : TermsIn (l .terms)
-  pub market : MarketRoom left (l .market)
+  pub market : MarketRoom most (l .market)
   pub limits : LimitsRoom (l .terms) (l .market) (l .limits)
   pub book : BookIn (l .book)
   pub holds : HoldsIn (l .holds)

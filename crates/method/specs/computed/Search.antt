@@ -8,7 +8,8 @@ use lib.ListN.{getD}
 use Rattle.method.specs.words.Types.{Seconds, Side, Up, Down, Hold, Idle, Since, Holds, Line, ShiftLine, Due, EventAnswer, seconds, State, blank}
 use Rattle.method.specs.words.Sessions.{Answer, accepted, refused}
 use Rattle.method.specs.computed.Types.{Event, Found, Nothing, At}
-use Rattle.method.specs.computed.Shift.{onward, most-left}
+use Rattle.method.specs.computed.Head.{most-left}
+use Rattle.method.specs.computed.Shift.{onward}
 use Rattle.method.specs.computed.Event.{read, verdict, next}
 use Rattle.method.specs.computed.Relation.{time}
 

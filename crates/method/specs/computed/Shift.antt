@@ -6,6 +6,7 @@ use Rattle.method.specs.words.Types.{Steps, Millionths, Seconds, Side, U
 use Rattle.method.specs.words.Ranges.{permits-negative}
 use Rattle.method.specs.words.Bounds.{bound}
 use Rattle.method.specs.words.Opening.{floored}
+use Rattle.method.specs.computed.Head.{with-lines}
 use Rattle.method.specs.computed.Judge.{judge-line}
 
 abbrev pub toward : Side → Steps → Steps → Steps
@@ -37,13 +38,6 @@ moved-line side l =
 -- and both sides are judged at the shift's second
 unfoldable pub shift-line : Millionths → ℕ → Side → Seconds → Line → Line
 shift-line near left side now l = judge-line near left now (moved-line side l)
-
-abbrev pub with-lines : State → List Line → ℕ → Seconds → State
-with-lines s ls left clock = record { lines = ls; clock = clock; end = s .end; hold = s .hold; left = left; near = s .near }
-
--- How many shifts may still be made in all, by which the ranges of a session's numbers go; `left` has those that may be made now.
-unfoldable pub most-left : State → ℕ
-most-left s = s .left
 
 -- of every line, and one shift less is left
 unfoldable pub shifted : Side → Seconds → State → State

@@ -18,8 +18,9 @@ use Rattle.method.specs.told.Program.{pieces}
 use Rattle.method.specs.told.Text.{ascii, decimal-in, line-text, text-of}
 use Rattle.method.specs.computed.Opening.{rates-good, fields-good, id-good, inside-bounds, opened-with, open-line}
 use Rattle.method.specs.computed.Table.{header-good, laid-out, key-good, bad-key, open-lines, open-records, opening}
+use Rattle.method.specs.computed.Head.{most-left}
 use Rattle.method.specs.computed.Judge.{judged, judge, judge-line}
-use Rattle.method.specs.computed.Shift.{moved, redrawn, moved-line, shift-line, most-left, shifted, after}
+use Rattle.method.specs.computed.Shift.{moved, redrawn, moved-line, shift-line, shifted, after}
 use Rattle.method.specs.computed.Event.{read-tick, read-quote, read, in-session, not-crossed, verdict, quoted-line, quoted, applied, next}
 use Rattle.method.specs.computed.Search.{due-of, ahead, sooner, passed, earliest, in-time, next-due, serve, served-by, answer, run, finally}
 use Rattle.method.specs.computed.Program.{session-rows, rows-after, program, output}

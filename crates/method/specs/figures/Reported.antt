@@ -11,7 +11,7 @@ use Rattle.method.specs.words.Tables.{opening-state}
 use Rattle.method.specs.told.Refusals.{event-number, Said, report-said}
 use Rattle.method.specs.told.Questions.{listed, line-of}
 use Rattle.method.specs.told.Report.{market-bounds, interest-bounds, hold-report, line-report, report}
-use Rattle.method.specs.computed.Shift.{with-lines}
+use Rattle.method.specs.computed.Head.{with-lines}
 use Rattle.method.specs.figures.Inputs.{sample}
 
 -- the sample table's line and state after a bid of 1046 at 10 and a tick at 69, the line written out by hand

@@ -9,8 +9,8 @@ use Rattle.numbers.specs.Ranges.{Within, Between, Span}
 use Rattle.method.specs.words.Types.{Header, Key, Contract}
 use Rattle.method.specs.words.Wire.{bit}
 
--- ---- the ends of ranges; the exponent's is `most-exponent`. No contract, law or proof has these numbers, and src/lib.rt has them once more, proved
--- to be the same.
+-- ---- the ends of ranges; the exponent's is `most-exponent`. But for the sizes of arrays no contract, law or proof has these numbers, and
+-- src/lib.rt has them once more, proved to be the same.
 abbrev pub most-contracts : ℕ
 most-contracts = 32
 

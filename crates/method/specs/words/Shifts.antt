@@ -18,16 +18,16 @@ Each R [] (l ∷ ls) = ⊥
 Each R (o ∷ os) [] = ⊥
 Each R (o ∷ os) (l ∷ ls) = R o l × Each R os ls
 
--- how many shift lines of a list are of a side
-abbrev pub same-side : Side → Side → ℕ
-same-side Up Up = 1
-same-side Up Down = 0
-same-side Down Up = 0
-same-side Down Down = 1
+-- ---- counting: 1 where two sides are one, and how many shift lines of a list are of a side
+abbrev pub one-if-same : Side → Side → ℕ
+one-if-same Up Up = 1
+one-if-same Up Down = 0
+one-if-same Down Up = 0
+one-if-same Down Down = 1
 
 unfoldable pub count : Side → List ShiftLine → ℕ
 count side [] = 0
-count side (c ∷ cs) = same-side side (c .side) + count side cs
+count side (c ∷ cs) = one-if-same side (c .side) + count side cs
 
 -- ---- market: o is a line, l the same line after u upward and d downward shifts (METHOD 16.1, 16.2)
 abbrev pub Centre : ℕ → ℕ → Line → Line → Type 0
@@ -76,7 +76,7 @@ LimitsMoved Down l n = LimitsDown l n
 -- Both sides are judged at the shift's second, from what it leaves of their holds (METHOD 16.4, 16.5, 16.7).
 pub record LineShifted (near : Millionths) (left : ℕ) (c : ShiftLine) (l n : Line) : Type 0 where
   pub terms : n .terms ≡ l .terms
-  pub centre : Centre (same-side Up (c .side)) (same-side Down (c .side)) l n
+  pub centre : Centre (one-if-same Up (c .side)) (one-if-same Down (c .side)) l n
   pub halfs : HalfWidths 1 l n
   pub limits : LimitsMoved (c .side) l n
   pub book : n .book ≡ l .book

@@ -53,11 +53,8 @@ pub record State : Type 0 where
   pub near : Millionths
 
 -- the ids that an event or a question may name
-abbrev pub ids : List Line → List ℕ
-ids ls = map (λ (l : Line). l .terms .id) ls
-
 abbrev pub session-ids : State → List ℕ
-session-ids s = ids (s .lines)
+session-ids s = map (λ (l : Line). l .terms .id) (s .lines)
 
 abbrev pub empty-book : Book
 empty-book = record { bid = Absent; ask = Absent }

@@ -5,7 +5,7 @@ use mathlib.Core.Path.{_≡_}
 use Prim.Native.Nat.{_+_, _≤_}
 use native.Mathlib.Omega.{arith}
 use lib.ListN.{length}
-use Rattle.closing.specs.Closing.{closing-needs}
+use Rattle.counting.specs.Counted.{most-closing}
 use Rattle.sundewcup.specs.Running.{run-needs}
 use Rattle.sundewcup.proofs.Whole.{none-ran, none-into, refused-ran, refused-into, first-valid, told-long, told-last, at-inside, part-long, opened-small, opened-ran, opened-into}
 use Rattle.sundewcup.proofs.run.Statement.{statement}
@@ -15,10 +15,10 @@ use Rattle.sundewcup.proofs.run.Tie as tie
 abbrev start : tie.After-open → tie.Start
 start c = c .before .before .before .before .before
 
-abbrev opening : tie.After-fed → tie.After-open
+abbrev opening : tie.After-counted → tie.After-open
 opening c = c .before .before .before .before .before
 
-abbrev answering : tie.After-last → tie.After-fed
+abbrev answering : tie.After-last → tie.After-counted
 answering c = c .before .before
 
 -- ---- no room
@@ -62,8 +62,8 @@ returns-2 c =
 enum-told : tie.Need-enum-told
 enum-told c = search needs
 
-fed-requires : tie.Need-fed-requires
-fed-requires c κs =
+counted-requires : tie.Need-counted-requires
+counted-requires c κs =
     let o = c .before .before .before .before in
     let s = start o in (
       first-valid (now (s .args .table)) (now (s .args .events)) (now (s .args .out)) (enough o) _ (o .«open» .ensures) (c .before .before .enum-told .given .1),
@@ -71,19 +71,19 @@ fed-requires c κs =
     )
 
 -- The buffer keeps its length, and the answers leave room for the closing rows.
-same-room : (c : tie.After-fed) → length (c .fed .last .1 .1 .0) ≡ length (now (start (opening c) .args .out))
+same-room : (c : tie.After-counted) → length (c .counted .last .1 .1 .0) ≡ length (now (start (opening c) .args .out))
 same-room c =
     let o = opening c in
     let s = start o in
-    let a = c .fed in
+    let a = c .counted in
     told-long (now (s .args .table)) (now (s .args .events)) (now (s .args .out)) (enough o) _ (o .«open» .ensures)
     (c .before .before .before .enum-told .given .1) (a .result) (a .ensures .0) (a .ensures .1)
 
-place-inside : (c : tie.After-fed) → c .fed .result .count + closing-needs ≤ length (now (start (opening c) .args .out))
+place-inside : (c : tie.After-counted) → c .counted .result .count + most-closing ≤ length (now (start (opening c) .args .out))
 place-inside c =
     let o = opening c in
     let s = start o in
-    let a = c .fed in
+    let a = c .counted in
     at-inside (now (s .args .table)) (now (s .args .events)) (now (s .args .out)) (enough o) _ (o .«open» .ensures)
     (c .before .before .before .enum-told .given .1) (a .result) (a .ensures .0) (a .ensures .1)
 
@@ -105,7 +105,7 @@ closed-requires c κs =
     let at = answering (c .before) in
     let o = opening at in
     let s = start o in
-    let a = at .fed in
+    let a = at .counted in
     let opened = at .before .before .before .enum-told .given .1 in (
       told-last (now (s .args .table)) (now (s .args .events)) (now (s .args .out)) (enough o) _ (o .«open» .ensures) opened (a .result) (a .ensures .0) (a .ensures .1),
       part-long (now (s .args .table)) (now (s .args .events)) (now (s .args .out)) (enough o) _ (o .«open» .ensures) opened (a .result) (a .ensures .0) (a .ensures .1),
@@ -116,7 +116,7 @@ add-t23 c =
     let at = answering (c .before .before .before) in
     let o = opening at in
     let s = start o in
-    let a = at .fed in
+    let a = at .counted in
     let small =
     opened-small (now (s .args .table)) (now (s .args .events)) (now (s .args .out)) (enough o) _ (o .«open» .ensures)
     (at .before .before .before .enum-told .given .1) (a .result) (a .ensures .0) (a .ensures .1) (c .before .closed .ensures .0) in
@@ -130,7 +130,7 @@ returns-3 c =
     let at = answering (c .before .before .before) in
     let o = opening at in
     let s = start o in
-    let a = at .fed in
+    let a = at .counted in
     let k = c .before .closed in
     let opened = at .before .before .before .enum-told .given .1 in (
       opened-ran (now (s .args .table)) (now (s .args .events)) (now (s .args .out)) (enough o) _ (o .«open» .ensures) opened
@@ -149,7 +149,7 @@ run-spec =
     enum-known-answer
     write-requires
     enum-told
-    fed-requires
+    counted-requires
     mul-closed
     sub-closed
     part-closed-start

@@ -7,7 +7,7 @@ use denote.Ref.{now}
 use Rattle.numbers.proofs.Tests.{failed, held}
 use Rattle.method.proofs.Decided.{laid-in}
 use Rattle.method.proofs.Table.{header-in}
-use Rattle.table.specs.Reply.{opened-as}
+use Rattle.table.specs.TableReply.{opened-as}
 use Rattle.table.proofs.Whole.{too-short, edition-not-1, header-bad, layout-bad, key-bad, lines-next, lined}
 use Rattle.table.proofs.open.Statement.{statement}
 use Rattle.table.proofs.open.Tie as tie

@@ -1,6 +1,6 @@
 -- `table::refused` meets its contract. Assumes nothing.
 use mathlib.Core.Path.{refl}
-use Rattle.table.specs.Reply.{opened-as}
+use Rattle.table.specs.TableReply.{opened-as}
 use Rattle.table.proofs.refused.Statement.{statement}
 use Rattle.table.proofs.refused.Tie as tie
 

@@ -3,9 +3,10 @@ use borrow.Author.Needs.{needs}
 use mathlib.Core.Path.{_≡_, refl, _∙_}
 use Prim.Native.Nat.{_≤_, _<_, _-_}
 use native.Mathlib.Omega.{arith}
-use Rattle.method.specs.computed.Shift.{shifted, most-left}
+use Rattle.method.specs.computed.Head.{most-left}
+use Rattle.method.specs.computed.Shift.{shifted}
 use Rattle.method.specs.computed.Search.{next-due}
-use Rattle.method.proofs.Head.{left-most, most-shifted}
+use Rattle.method.proofs.Head.{left-within, most-shifted}
 use Rattle.corridor.specs.Names.{Seconds, Due, At}
 use Rattle.corridor.specs.View.{view}
 use Rattle.corridor.proofs.Views.{view-put, ranged-length}
@@ -55,7 +56,7 @@ told c = next-is _ _ _ (found c)
 room-left : (c : Handed) → serving c .serving .made < 16
 room-left c =
     let g = serving c .serving .inv in
-    omega (arith, g .counted, g .spent, told c .left, left-most (view (serving c .serving .self)))
+    omega (arith, g .counted, g .spent, told c .left, left-within (view (serving c .serving .self)))
 
 serving-holds : tie.Need-serving-holds Inv-loop μ-loop Inv-serving μ-serving
 serving-holds c = going-start _ _ (c .before .before .pre)

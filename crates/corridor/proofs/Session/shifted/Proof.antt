@@ -8,7 +8,7 @@ use Rattle.method.specs.words.Types.{blank}
 use Rattle.method.specs.computed.Shift.{shift-line}
 use Rattle.method.specs.computed.Rooms.{Room}
 use Rattle.method.proofs.Rooms.{room-fewer}
-use Rattle.method.proofs.Head.{left-most}
+use Rattle.method.proofs.Head.{left-within}
 use Rattle.shifts.proofs.Rooms.{room-shifts}
 use Rattle.corridor.specs.View.{view, moved-on}
 use Rattle.corridor.proofs.Rows.{changed, changed-at, room-at}
@@ -40,7 +40,7 @@ shift-line-requires c κs =
     let v = c .before .before .before .before .pre .0 in
     let s = c .before .before .before .before .args .t1 in
     let i = c .before .before .loop .place in
-    let most = left-most (view s) in
+    let most = left-within (view s) in
     let r : Room (suc (s .left - 1)) (getD (s .lines) i blank) = room-fewer (omega arith) (room-at i v (omega arith)) in
     rw (c .before .before .loop .inv .1, changed-at) (room-shifts (s .near) (omega (arith, v .sane .left)) (v .sane .near .most) r)
 

@@ -7,8 +7,8 @@ use Rattle.host_line.proofs.Records.{agree-yes, agree-no}
 use Rattle.host_line.proofs.exact.exact_on.Statement.{statement}
 use Rattle.host_line.proofs.exact.exact_on.Tie as tie
 
-may-hold-requires : tie.Need-may-hold-requires
-may-hold-requires c κs = search needs
+pressed-requires : tie.Need-pressed-requires
+pressed-requires c κs = search needs
 
 hold-of-requires : tie.Need-hold-of-requires
 hold-of-requires c κs = search needs
@@ -17,11 +17,11 @@ stands-requires : tie.Need-stands-requires
 stands-requires c κs = search needs
 
 returns : tie.Need-returns
-returns c = agree-yes (c .before .before .before .may-hold .ensures) (sym (c .before .stands .ensures ∙ ap (λ (h : Hold). standing h) (c .before .before .hold-of .ensures)) ∙ c .if1 .taken)
+returns c = agree-yes (c .before .before .before .pressed .ensures) (sym (c .before .stands .ensures ∙ ap (λ (h : Hold). standing h) (c .before .before .hold-of .ensures)) ∙ c .if1 .taken)
 
 returns-2 : tie.Need-returns-2
-returns-2 c = agree-no (c .before .before .before .may-hold .ensures) (sym (c .before .stands .ensures ∙ ap (λ (h : Hold). standing h) (c .before .before .hold-of .ensures)) ∙ c .if1 .left)
+returns-2 c = agree-no (c .before .before .before .pressed .ensures) (sym (c .before .stands .ensures ∙ ap (λ (h : Hold). standing h) (c .before .before .hold-of .ensures)) ∙ c .if1 .left)
 
 pub exact-on-spec : {M : Type 1} → statement M
 exact-on-spec =
-    tie.close (tie.spec may-hold-requires hold-of-requires stands-requires returns returns-2)
+    tie.close (tie.spec pressed-requires hold-of-requires stands-requires returns returns-2)

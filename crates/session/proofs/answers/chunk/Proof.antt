@@ -8,23 +8,23 @@ use Rattle.method.specs.told.Program.{events-of}
 use Rattle.method.specs.computed.Search.{run}
 use Rattle.corridor.specs.View.{view}
 use Rattle.feeding.specs.Feeding.{told}
-use Rattle.counting.specs.declared.Counted.{Counted}
+use Rattle.counting.specs.declared.Tally.{Tally}
 use Rattle.counting.proofs.Answering.{count-fits}
 use Rattle.session.proofs.Texts.{front, enough, counted, said}
 use Rattle.session.proofs.answers.chunk.Statement.{statement}
 use Rattle.session.proofs.answers.chunk.Tie as tie
 
-fed-requires : tie.Need-fed-requires
-fed-requires c κs = search needs
+counted-requires : tie.Need-counted-requires
+counted-requires c κs = search needs
 
 slice-reshare-prefix-lines : tie.Need-slice-reshare-prefix-lines
-slice-reshare-prefix-lines c = enough (now (c .before .before .before .before .before .args .numbers)) (told (c .before .before .before .before .before .args .s) (now (c .before .before .before .before .before .args .events))) (c .before .fed .ensures .1) (ap (λ (r : Counted). r .count) (c .before .fed .ensures .0))
+slice-reshare-prefix-lines c = enough (now (c .before .before .before .before .before .args .numbers)) (told (c .before .before .before .before .before .args .s) (now (c .before .before .before .before .before .args .events))) (c .before .counted .ensures .1) (ap (λ (r : Tally). r .count) (c .before .counted .ensures .0))
 
 slice-aggregate-lines : tie.Need-slice-aggregate-lines
-slice-aggregate-lines c = counted (now (c .before .before .before .before .before .before .args .numbers)) (told (c .before .before .before .before .before .before .args .s) (now (c .before .before .before .before .before .before .args .events))) (c .before .before .fed .ensures .1) (ap (λ (r : Counted). r .count) (c .before .before .fed .ensures .0))
+slice-aggregate-lines c = counted (now (c .before .before .before .before .before .before .args .numbers)) (told (c .before .before .before .before .before .before .args .s) (now (c .before .before .before .before .before .before .args .events))) (c .before .before .counted .ensures .1) (ap (λ (r : Tally). r .count) (c .before .before .counted .ensures .0))
 
 lines-requires : tie.Need-lines-requires
-lines-requires c κs = let long = counted (now (c .before .before .before .before .before .before .before .args .numbers)) (told (c .before .before .before .before .before .before .before .args .s) (now (c .before .before .before .before .before .before .before .args .events))) (c .before .before .before .fed .ensures .1) (ap (λ (r : Counted). r .count) (c .before .before .before .fed .ensures .0)) in omega (arith, count-fits (c .before .before .before .before .before .before .before .args .s) (now (c .before .before .before .before .before .before .before .args .events)) (c .before .before .before .before .before .before .before .pre .0) (c .before .before .before .fed .ensures .0))
+lines-requires c κs = let long = counted (now (c .before .before .before .before .before .before .before .args .numbers)) (told (c .before .before .before .before .before .before .before .args .s) (now (c .before .before .before .before .before .before .before .args .events))) (c .before .before .before .counted .ensures .1) (ap (λ (r : Tally). r .count) (c .before .before .before .counted .ensures .0)) in omega (arith, count-fits (c .before .before .before .before .before .before .before .args .s) (now (c .before .before .before .before .before .before .before .args .events)) (c .before .before .before .before .before .before .before .pre .0) (c .before .before .before .counted .ensures .0))
 
 same-length : tie.Need-same-length
 same-length c = search needs
@@ -35,10 +35,10 @@ same-length-2 c = search needs
 returns : tie.Need-returns
 returns c =
     let s = c .before .before .before .before .before .before .before .before .before .before .before in
-    let a = c .before .before .before .before .before .before .before .fed .ensures in (
-      ap (λ (r : Counted). r .session) (a .0),
+    let a = c .before .before .before .before .before .before .before .counted .ensures in (
+      ap (λ (r : Tally). r .session) (a .0),
       said (rows-of-all (run (view (s .args .s)) (events-of (now (s .args .events)))))
-          (front (now (c .before .before .before .before .before .before .before .before .before .before .before .args .numbers)) (told (c .before .before .before .before .before .before .before .before .before .before .before .args .s) (now (c .before .before .before .before .before .before .before .before .before .before .before .args .events))) (c .before .before .before .before .before .before .before .fed .ensures .1) (ap (λ (r : Counted). r .count) (c .before .before .before .before .before .before .before .fed .ensures .0)))
+          (front (now (c .before .before .before .before .before .before .before .before .before .before .before .args .numbers)) (told (c .before .before .before .before .before .before .before .before .before .before .before .args .s) (now (c .before .before .before .before .before .before .before .before .before .before .before .args .events))) (c .before .before .before .before .before .before .before .counted .ensures .1) (ap (λ (r : Tally). r .count) (c .before .before .before .before .before .before .before .counted .ensures .0)))
           (c .before .before .before .lines .ensures),
     )
 
@@ -46,7 +46,7 @@ pub chunk-spec : {M : Type 1} → statement M
 chunk-spec =
     tie.close
     (tie.spec
-    fed-requires
+    counted-requires
     slice-reshare-prefix-lines
     slice-aggregate-lines
     lines-requires

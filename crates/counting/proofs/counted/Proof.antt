@@ -1,11 +1,11 @@
--- `counting::fed` meets its contract. Assumes nothing.
+-- `counting::counted` meets its contract. Assumes nothing.
 use borrow.Author.Needs.{needs}
 use mathlib.Core.Path.{_∙_}
 use denote.Ref.{now}
 use Rattle.feeding.proofs.Chunks.{fed-into-is}
 use Rattle.counting.proofs.Answering.{counted-is}
-use Rattle.counting.proofs.fed.Statement.{statement}
-use Rattle.counting.proofs.fed.Tie as tie
+use Rattle.counting.proofs.counted.Statement.{statement}
+use Rattle.counting.proofs.counted.Tie as tie
 
 feed-requires : tie.Need-feed-requires
 feed-requires c κs = search needs
@@ -24,5 +24,5 @@ returns c =
       f .1 ∙ fed-into-is (s .args .s) (now (s .args .numbers)) (now (s .args .chunk)) (s .pre .1),
     )
 
-pub fed-spec : {M : Type 1} → statement M
-fed-spec = tie.close (tie.spec feed-requires number-in-requires same-length returns)
+pub counted-spec : {M : Type 1} → statement M
+counted-spec = tie.close (tie.spec feed-requires number-in-requires same-length returns)
