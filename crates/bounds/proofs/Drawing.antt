@@ -3,16 +3,18 @@ use mathlib.Core.Path.{_≡_, refl}
 use Prim.Native.Nat.{ℕ, _≤_, _<_, _^_}
 use native.Mathlib.Omega.{arith}
 use lib.Dec.{lit<}
-use lib.IntN.{ℤ, pos, _+ℤ_, _-ℤ_, _*ℤ_}
+use lib.IntN.{ℤ, pos, negsuc, _+ℤ_, _-ℤ_, _*ℤ_}
+use lib.Signed.{_≤ℤ_, _<ℤ_}
 use mir.Syntax.{w64}
 use mir.Val.{SFits}
 use Rattle.numbers.specs.Ranges.{Within}
+use Rattle.numbers.proofs.Halves.{zarith}
 use Rattle.numbers.proofs.Ranges.{fits, within-add, within-sub, within-mul, within-pos}
 use Rattle.numbers.proofs.Machine.{cast-back}
 use Rattle.method.specs.words.Bounds.{market-bound, factor, interest, bound}
 use Rattle.method.specs.computed.Rooms.{largest-reach, largest-factor, largest-market-bound, largest-bound}
-use Rattle.method.proofs.Rooms.{factor-in, interest-within}
-use Rattle.bounds.specs.Names.{Side, Up, Down, Terms, Market}
+use Rattle.method.proofs.Rooms.{factor-in, outward-within}
+use Rattle.bounds.specs.Names.{Side, Up, Down, Factors, Market}
 use Rattle.bounds.specs.Rounding.{rounded}
 use Rattle.bounds.specs.Asks.{Drawn}
 
@@ -37,15 +39,31 @@ unfolding interest
 interest-is Up f z = refl
 interest-is Down f z = refl
 
+-- ---- the factor, by the test of the bound's sign
+not-below : (n : ℕ) → pos n <ℤ pos 0 → ⊥
+not-below n h = omega zarith
+
+pub factor-below : (side : Side) (f : Factors) (z : ℤ) → z <ℤ pos 0 → factor side f (negsuc 0) ≡ factor side f z
+unfolding factor
+factor-below side f (pos n) h = absurd (not-below n h)
+factor-below Up f (negsuc n) h = refl
+factor-below Down f (negsuc n) h = refl
+
+pub factor-above : (side : Side) (f : Factors) (z : ℤ) → pos 0 ≤ℤ z → factor side f (pos 0) ≡ factor side f z
+unfolding factor
+factor-above side f (negsuc n) h = absurd (h .le)
+factor-above Up f (pos n) h = refl
+factor-above Down f (pos n) h = refl
+
 -- ---- what a bound's parts are asked
-module _ {t : Terms} {m : Market} (d : Drawn t m) where
-  pub drawn-factor : (side : Side) → factor side t ≤ largest-factor
-  drawn-factor side = factor-in side (d .factors)
+module _ {f : Factors} {m : Market} (d : Drawn f m) where
+  pub drawn-factor : (side : Side) (z : ℤ) → factor side f z ≤ largest-factor
+  drawn-factor side z = factor-in side z (d .factors)
 
   pub drawn-bound : (side : Side) → Within largest-market-bound (market-bound side (m .centre) (m .half1))
   drawn-bound Up = within-add (d .centre) (d .half1)
   drawn-bound Down = within-sub (d .centre) (d .half1)
 
-  pub drawn-within : (side : Side) → Within largest-bound (bound side t m)
+  pub drawn-within : (side : Side) → Within largest-bound (bound side f m)
   unfolding bound
-  drawn-within side = interest-within side (factor side t) (drawn-factor side) (drawn-bound side)
+  drawn-within side = outward-within side (d .factors) (drawn-bound side)

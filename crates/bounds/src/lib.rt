@@ -6,9 +6,9 @@ ghost use Rattle.numbers.specs.Ranges.{Within};
 ghost use Rattle.method.specs.words.Bounds.{market-bound, factor, interest, bound};
 ghost use Rattle.method.specs.computed.Rooms.{largest-reach, largest-factor, largest-market-bound};
 ghost use Rattle.bounds.specs.Asks.{Drawn};
+use method::Factors;
 use method::Market;
 use method::Side;
-use method::Terms;
 use numbers::Billionths;
 use numbers::Steps;
 
@@ -26,42 +26,42 @@ pub fn market_bound(side: Side, centre: Steps, half: Steps) -> Steps
     }
 }
 
-// The factor of a side's bound: they change places where the settlement price was negative.
-fn factor(side: Side, t: Terms) -> Billionths
-    ensures { λ r. ⌜ r .0 ≡ factor side t ⌝ }
+// The factor that takes a market bound outward, by the bound's own sign: down where outward is toward zero, up where it is away from it.
+fn factor(side: Side, f: Factors, z: Steps) -> Billionths
+    ensures { λ r. ⌜ r .0 ≡ factor side f (z .0) ⌝ }
 {
-    let f = t.factors;
     match side {
         Side::Up => {
-            if t.negative {
+            if z.0 < 0 {
                 return f.down;
             }
             f.up
         }
         Side::Down => {
-            if t.negative {
-                return f.up;
+            if 0 <= z.0 {
+                return f.down;
             }
-            f.down
+            f.up
         }
     }
 }
 
 // A market bound by its factor, rounded outward.
-fn interest(side: Side, f: Billionths, z: Steps) -> Steps
-    requires { ⌜ (f .0 ≤ largest-factor) × Within largest-market-bound (z .0) ⌝ }
-    ensures { λ r. ⌜ r .0 ≡ interest side (f .0) (z .0) ⌝ }
+fn interest(side: Side, by: Billionths, z: Steps) -> Steps
+    requires { ⌜ (by .0 ≤ largest-factor) × Within largest-market-bound (z .0) ⌝ }
+    ensures { λ r. ⌜ r .0 ≡ interest side (by .0) (z .0) ⌝ }
 {
-    let product = z.0 * (f.0 as i64);
+    let product = z.0 * (by.0 as i64);
     rounding::rounded(side, product, 1000000000)
 }
 
 // The interest bound of a side.
-pub fn bound(side: Side, t: Terms, m: Market) -> Steps
-    requires { ⌜ Drawn t m ⌝ }
-    ensures { λ r. ⌜ r .0 ≡ bound side t m ⌝ }
+pub fn bound(side: Side, f: Factors, m: Market) -> Steps
+    requires { ⌜ Drawn f m ⌝ }
+    ensures { λ r. ⌜ r .0 ≡ bound side f m ⌝ }
 {
     let centre = m.centre;
     let half = m.half1;
-    interest(side, factor(side, t), market_bound(side, centre, half))
+    let z = market_bound(side, centre, half);
+    interest(side, factor(side, f, z), z)
 }

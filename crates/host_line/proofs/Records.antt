@@ -40,7 +40,7 @@ module _ (left : ℕ) {most : ℤ} (e : most ≡ pos (reach left)) where
   least-is = omega (zarith, sub-is (pos 0) most, neg-is (pos (reach left)), e)
 
 -- ---- the limits, against the numbers that the bounds come to
-pub drawn : {left : ℕ} {t : Terms} {m : Market} → TermsIn t → MarketRoom left m → Drawn t m
+pub drawn : {left : ℕ} {t : Terms} {m : Market} → TermsIn t → MarketRoom left m → Drawn (t .factors) m
 drawn t m =
     record {
       factors = t .factors;
@@ -49,13 +49,13 @@ drawn t m =
     }
 
 module _ {t : Terms} {m : Market} {k : Limits} where
-  pub lower-spans : {low : ℤ} → low ≡ bound Down t m → LimitsRoom t m k → Span low (k .upper .0) (k .lower .0)
+  pub lower-spans : {low : ℤ} → low ≡ bound Down (t .factors) m → LimitsRoom t m k → Span low (k .upper .0) (k .lower .0)
   lower-spans e r = rw e (record { least = r .lower; most = r .ordered })
 
-  pub upper-spans : {high : ℤ} → high ≡ bound Up t m → LimitsRoom t m k → Span (k .lower .0) high (k .upper .0)
+  pub upper-spans : {high : ℤ} → high ≡ bound Up (t .factors) m → LimitsRoom t m k → Span (k .lower .0) high (k .upper .0)
   upper-spans e r = rw e (record { least = r .ordered; most = r .upper })
 
-  pub spans-limits : {low high : ℤ} → low ≡ bound Down t m → high ≡ bound Up t m → Span low (k .upper .0) (k .lower .0)
+  pub spans-limits : {low high : ℤ} → low ≡ bound Down (t .factors) m → high ≡ bound Up (t .factors) m → Span low (k .upper .0) (k .lower .0)
       → Span (k .lower .0) high (k .upper .0) → Floor k (t .flags) → LimitsRoom t m k
   spans-limits d u lower upper f =
       record { upper = rw u at (upper .most); lower = rw d at (lower .least); ordered = lower .most; floor = f }

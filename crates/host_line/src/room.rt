@@ -8,6 +8,7 @@ ghost use Rattle.method.specs.words.Ranges.{most-shifts};
 ghost use Rattle.method.specs.computed.Rooms.{reach, FactorsIn, TermsIn, Floor, MarketRoom, LimitsRoom, PriceIn, BookIn, HoldIn, HoldsIn, Room};
 ghost use Rattle.bounds.specs.Asks.{Drawn};
 use method::Book;
+use method::Factors;
 use method::Hold;
 use method::Holds;
 use method::Limits;
@@ -29,10 +30,9 @@ const EACH_SHIFT: u32 = LARGEST_HALF_MOVE as u32;
 
 const LARGEST_REACH: u32 = method::LARGEST_PRICE as u32 + EACH_SHIFT * method::MOST_SHIFTS;
 
-fn factors(t: Terms) -> bool
-    ensures { λ r. ⌜ Decides r (FactorsIn t) ⌝ }
+fn factors(f: Factors) -> bool
+    ensures { λ r. ⌜ Decides r (FactorsIn f) ⌝ }
 {
-    let f = t.factors;
     if f.up.0 < 1000000000 {
         return false;
     }
@@ -61,7 +61,8 @@ fn terms(t: Terms) -> bool
     if !numbers::between(Steps(1), Steps(LARGEST_HALF_MOVE), halfmove) {
         return false;
     }
-    factors(t)
+    let f = t.factors;
+    factors(f)
 }
 
 // How far a centre and a half-width reach while so many shifts are left.
@@ -120,15 +121,16 @@ fn floor(k: Limits, flags: u32) -> bool
 
 // Both limits between the interest bounds, and in their order.
 fn limits(t: Terms, m: Market, k: Limits) -> bool
-    requires { ⌜ Drawn t m ⌝ }
+    requires { ⌜ Drawn (t .factors) m ⌝ }
     ensures { λ r. ⌜ Decides r (LimitsRoom t m k) ⌝ }
 {
+    let f = t.factors;
     let upper = k.upper;
     let lower = k.lower;
-    if !numbers::between(bounds::bound(Side::Down, t, m), upper, lower) {
+    if !numbers::between(bounds::bound(Side::Down, f, m), upper, lower) {
         return false;
     }
-    if !numbers::between(lower, bounds::bound(Side::Up, t, m), upper) {
+    if !numbers::between(lower, bounds::bound(Side::Up, f, m), upper) {
         return false;
     }
     floor(k, t.flags)

@@ -27,7 +27,7 @@ module _ {left : ℕ} {l : Line} (r : Room left l) where
   pub room-down : HoldIn (l .holds .down)
   room-down = r .holds .down
 
-  pub room-drawn : Drawn (l .terms) (l .market)
+  pub room-drawn : Drawn (l .terms .factors) (l .market)
   room-drawn = record { factors = r .terms .factors; centre = room-centre; half1 = room-half1 }
 
 -- `search (needs, rooms)` proves what is asked of a level of the market or of a hold, whichever it is

@@ -49,13 +49,14 @@ fn market_bounds(centre: Steps, half: Steps) -> BothBounds
 }
 
 fn interest_bounds(l: Line) -> BothBounds
-    requires { ⌜ Drawn (l .terms) (l .market) ⌝ }
+    requires { ⌜ Drawn (l .terms .factors) (l .market) ⌝ }
     ensures { λ r. ⌜ r ≡ interest-bounds l ⌝ }
 {
     let t = l.terms;
+    let f = t.factors;
     let m = l.market;
-    let upper = bounds::bound(Side::Up, t, m);
-    let lower = bounds::bound(Side::Down, t, m);
+    let upper = bounds::bound(Side::Up, f, m);
+    let lower = bounds::bound(Side::Down, f, m);
     BothBounds {
         upper: upper,
         lower: lower,
@@ -113,7 +114,7 @@ pub fn line_report(wait: Seconds, left: u32, clock: Seconds, l: Line) -> Report
 
 // What stands on the line at the end.
 pub fn closing_row(l: Line) -> Row
-    requires { ⌜ Drawn (l .terms) (l .market) ⌝ }
+    requires { ⌜ Drawn (l .terms .factors) (l .market) ⌝ }
     ensures { λ r. ⌜ r ≡ closing-row l ⌝ }
 {
     let t = l.terms;

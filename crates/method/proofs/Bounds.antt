@@ -1,20 +1,74 @@
--- Laws of the interest bounds: they go with the market bound, a shift moves only its own side's, and never inward. Assumes nothing.
-use mathlib.Core.Path.{_≡_, ap}
-use Prim.Native.Nat.{ℕ}
-use lib.IntN.{ℤ, pos, _+ℤ_, _-ℤ_}
+-- Laws of the interest bounds: they go with the market bound, over zero too; a shift moves only its own side's, and never inward. Assumes
+-- nothing.
+use mathlib.Core.Path.{_≡_, ap, subst}
+use Prim.Native.Nat.{ℕ, _≤_}
+use lib.Dec.{lit<}
+use lib.IntN.{ℤ, pos, negsuc, _+ℤ_, _-ℤ_, _*ℤ_}
 use lib.Signed.{_≤ℤ_}
-use Rattle.numbers.proofs.Halves.{zarith, add-is, sub-is}
-use Rattle.numbers.proofs.Linear.{mul-mono}
-use Rattle.numbers.proofs.Rounding.{floor-mono, ceiling-mono}
-use Rattle.method.specs.words.Types.{Side, Up, Down, Steps, Terms, Market}
-use Rattle.method.specs.words.Bounds.{factor, interest, bound}
+use Rattle.numbers.specs.Rounding.{floor, ceiling}
+use Rattle.numbers.proofs.Halves.{zarith, add-is, sub-is, mul-is}
+use Rattle.numbers.proofs.Linear.{≤ℤ-trans, mul-mono, mul-grows, mul-sinks}
+use Rattle.numbers.proofs.Rounding.{floor-mono, ceiling-mono, floor-exact, ceiling-exact}
+use Rattle.method.specs.words.Types.{Side, Up, Down, Steps, Factors, Market}
+use Rattle.method.specs.words.Bounds.{interest, factor, outward, bound}
 use Rattle.method.specs.computed.Shift.{moved}
+use Rattle.method.specs.computed.Rooms.{FactorsIn}
 
--- ---- interest bounds do not fall where the market bound does not
-pub interest-mono : (side : Side) (f : ℕ) {y z : ℤ} → y ≤ℤ z → interest side f y ≤ℤ interest side f z
+-- ---- by one factor
+interest-mono : (side : Side) (by : ℕ) {y z : ℤ} → y ≤ℤ z → interest side by y ≤ℤ interest side by z
 unfolding interest
-interest-mono Up f h = ceiling-mono 1_000_000_000 (mul-mono f h)
-interest-mono Down f h = floor-mono 1_000_000_000 (mul-mono f h)
+interest-mono Up by h = ceiling-mono 1_000_000_000 (mul-mono by h)
+interest-mono Down by h = floor-mono 1_000_000_000 (mul-mono by h)
+
+-- 0 stays 0, so that what lies on two sides of it stays so, by whatever factors
+zero-times : (by : ℕ) → pos 0 *ℤ pos by ≡ pos 0
+zero-times by = omega (zarith, mul-is (pos 0) by)
+
+at-zero : (side : Side) (by : ℕ) → interest side by (pos 0) ≡ pos 0
+unfolding interest
+at-zero Up by = ap (λ (z : ℤ). ceiling z 1_000_000_000) (zero-times by)
+at-zero Down by = ap (λ (z : ℤ). floor z 1_000_000_000) (zero-times by)
+
+over-zero : (side : Side) (f g a b : ℕ) → interest side f (negsuc a) ≤ℤ interest side g (pos b)
+over-zero side f g a b = ≤ℤ-trans low high
+  where
+    low : interest side f (negsuc a) ≤ℤ pos 0
+    low = subst (λ (z : ℤ). interest side f (negsuc a) ≤ℤ z) (at-zero side f) (interest-mono side f (omega zarith))
+
+    high : pos 0 ≤ℤ interest side g (pos b)
+    high = subst (λ (z : ℤ). z ≤ℤ interest side g (pos b)) (at-zero side g) (interest-mono side g (omega zarith))
+
+-- ---- an interest bound does not fall where its market bound does not, whatever their signs
+pub outward-mono : (side : Side) (f : Factors) (a b : ℤ) → a ≤ℤ b → outward side f a ≤ℤ outward side f b
+unfolding outward factor
+outward-mono Up f (pos a) (pos b) h = interest-mono Up (f .up .0) h
+outward-mono Up f (negsuc a) (pos b) h = over-zero Up (f .down .0) (f .up .0) a b
+outward-mono Up f (negsuc a) (negsuc b) h = interest-mono Up (f .down .0) h
+outward-mono Up f (pos a) (negsuc b) h = absurd (h .le)
+outward-mono Down f (pos a) (pos b) h = interest-mono Down (f .down .0) h
+outward-mono Down f (negsuc a) (pos b) h = over-zero Down (f .up .0) (f .down .0) a b
+outward-mono Down f (negsuc a) (negsuc b) h = interest-mono Down (f .up .0) h
+outward-mono Down f (pos a) (negsuc b) h = absurd (h .le)
+
+-- ---- and lies on its outer side, since the up factor is one or more and the down factor one or less
+one-up : (z : ℤ) → interest Up 1_000_000_000 z ≡ z
+unfolding interest
+one-up z = ceiling-exact z 1_000_000_000 (lit< tt)
+
+one-down : (z : ℤ) → interest Down 1_000_000_000 z ≡ z
+unfolding interest
+one-down z = floor-exact z 1_000_000_000 (lit< tt)
+
+module _ {f : Factors} (r : FactorsIn f) where
+  pub outside-up : (z : ℤ) → z ≤ℤ outward Up f z
+  unfolding outward factor interest
+  outside-up (pos n) = subst (λ (z : ℤ). z ≤ℤ outward Up f (pos n)) (one-up (pos n)) (ceiling-mono 1_000_000_000 (mul-grows (pos n) (omega zarith) (r .up .least)))
+  outside-up (negsuc n) = subst (λ (z : ℤ). z ≤ℤ outward Up f (negsuc n)) (one-up (negsuc n)) (ceiling-mono 1_000_000_000 (mul-sinks (negsuc n) (omega zarith) (r .down .most)))
+
+  pub outside-down : (z : ℤ) → outward Down f z ≤ℤ z
+  unfolding outward factor interest
+  outside-down (pos n) = subst (λ (z : ℤ). outward Down f (pos n) ≤ℤ z) (one-down (pos n)) (floor-mono 1_000_000_000 (mul-grows (pos n) (omega zarith) (r .down .most)))
+  outside-down (negsuc n) = subst (λ (z : ℤ). outward Down f (negsuc n) ≤ℤ z) (one-down (negsuc n)) (floor-mono 1_000_000_000 (mul-sinks (negsuc n) (omega zarith) (r .up .least)))
 
 -- ---- a shift leaves the other side's interest bound exactly as it is: centre c, half-width h, half-move k
 abbrev pub other : Side → Side
@@ -27,10 +81,10 @@ low-kept c h k = omega (zarith, add-is c k, add-is h k, sub-is (c +ℤ k) (h +�
 high-kept : (c h k : ℤ) → c -ℤ k +ℤ (h +ℤ k) ≡ c +ℤ h
 high-kept c h k = omega (zarith, sub-is c k, add-is h k, add-is (c -ℤ k) (h +ℤ k), add-is c h)
 
-pub bound-kept : (side : Side) (t : Terms) (by : Steps) (m : Market) → bound (other side) t (moved side by m) ≡ bound (other side) t m
+pub bound-kept : (side : Side) (f : Factors) (by : Steps) (m : Market) → bound (other side) f (moved side by m) ≡ bound (other side) f m
 unfolding bound moved
-bound-kept Up t by m = ap (interest Down (factor Down t)) (low-kept (m .centre .0) (m .half1 .0) (by .0))
-bound-kept Down t by m = ap (interest Up (factor Up t)) (high-kept (m .centre .0) (m .half1 .0) (by .0))
+bound-kept Up f by m = ap (outward Down f) (low-kept (m .centre .0) (m .half1 .0) (by .0))
+bound-kept Down f by m = ap (outward Up f) (high-kept (m .centre .0) (m .half1 .0) (by .0))
 
 -- ---- and takes its own side's outward or leaves it
 high-rises : (c h k : ℤ) → pos 0 ≤ℤ k → (c +ℤ h) ≤ℤ (c +ℤ k +ℤ (h +ℤ k))
@@ -39,11 +93,11 @@ high-rises c h k p = omega (zarith, add-is c k, add-is h k, add-is (c +ℤ k) (h
 low-falls : (c h k : ℤ) → pos 0 ≤ℤ k → (c -ℤ k -ℤ (h +ℤ k)) ≤ℤ (c -ℤ h)
 low-falls c h k p = omega (zarith, sub-is c k, add-is h k, sub-is (c -ℤ k) (h +ℤ k), sub-is c h)
 
-module _ (t : Terms) (by : Steps) (m : Market) (p : pos 0 ≤ℤ (by .0)) where
-  pub upper-rises : bound Up t m ≤ℤ bound Up t (moved Up by m)
+module _ (f : Factors) (by : Steps) (m : Market) (p : pos 0 ≤ℤ (by .0)) where
+  pub upper-rises : bound Up f m ≤ℤ bound Up f (moved Up by m)
   unfolding bound moved
-  upper-rises = interest-mono Up (factor Up t) (high-rises (m .centre .0) (m .half1 .0) (by .0) p)
+  upper-rises = outward-mono Up f _ _ (high-rises (m .centre .0) (m .half1 .0) (by .0) p)
 
-  pub lower-falls : bound Down t (moved Down by m) ≤ℤ bound Down t m
+  pub lower-falls : bound Down f (moved Down by m) ≤ℤ bound Down f m
   unfolding bound moved
-  lower-falls = interest-mono Down (factor Down t) (low-falls (m .centre .0) (m .half1 .0) (by .0) p)
+  lower-falls = outward-mono Down f _ _ (low-falls (m .centre .0) (m .half1 .0) (by .0) p)

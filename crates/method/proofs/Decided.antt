@@ -7,7 +7,7 @@ use Prim.Native.Nat.{ℕ}
 use lib.Dec.{eqb}
 use borrow.Author.Tests.{eqb-true, eqb-false, le-leb, lt-ltb, eq-eqb, ne-eqb}
 use Rattle.numbers.proofs.Tests.{both, both-true, never-both, le-true, true-le, range-in, span-in, within-in}
-use Rattle.method.specs.words.Types.{Header, Key, Contract, Terms, Market, Limits}
+use Rattle.method.specs.words.Types.{Header, Key, Contract, Factors, Market, Limits}
 use Rattle.method.specs.words.Ranges.{most-shifts, whole, largest-rate, most-days, permits-negative, HeaderIn, KeyIn, ContractIn, Every}
 use Rattle.method.specs.words.Tables.{Laid, InsideBounds}
 use Rattle.method.specs.told.Questions.{listed}
@@ -73,13 +73,13 @@ fields-test c r =
     (both-true (both-true (within-in (r .price)) (permitted-or (permits-negative (c .flags)) (λ n. true-le (r .positive n)))) (within-in (r .spot)))
     (span-in (r .least))) rates) (le-leb (c .width .0) whole (r .width))) (le-leb (c .days) most-days (r .days))) (lt-ltb (c .flags) 4 (r .flags))
 
-pub inside-in : (t : Terms) (m : Market) (k : Limits) → inside-bounds t m k ≡ true → InsideBounds t m k
+pub inside-in : (f : Factors) (m : Market) (k : Limits) → inside-bounds f m k ≡ true → InsideBounds f m k
 unfolding inside-bounds
-inside-in t m k e = let p = both _ _ e in record { upper = le-true _ _ (p .0); lower = le-true _ _ (p .1) }
+inside-in f m k e = let p = both _ _ e in record { upper = le-true _ _ (p .0); lower = le-true _ _ (p .1) }
 
-pub inside-test : (t : Terms) (m : Market) (k : Limits) → InsideBounds t m k → inside-bounds t m k ≡ true
+pub inside-test : (f : Factors) (m : Market) (k : Limits) → InsideBounds f m k → inside-bounds f m k ≡ true
 unfolding inside-bounds
-inside-test t m k r = both-true (true-le (r .upper)) (true-le (r .lower))
+inside-test f m k r = both-true (true-le (r .upper)) (true-le (r .lower))
 
 -- an id that is not listed is none of them
 pub listed-not : (id : ℕ) (is : List ℕ) → listed id is ≡ false → Every (λ i. i ≡ id → ⊥) is

@@ -61,15 +61,15 @@ module _ (shift : Millionths) (keys : List Key) where
       (λ a. by-demand (LineAnswered earlier c) (id-good (lines-of earlier) (c .id))
       (λ b. by-demand (LineAnswered earlier c) (leb y most-exponent)
       (λ d. by-demand (LineAnswered earlier c) (leZ (pos 1) (t .halfmove .0))
-      (λ e. by-demand (LineAnswered earlier c) (inside-bounds t m k)
+      (λ e. by-demand (LineAnswered earlier c) (inside-bounds (t .factors) m k)
       (λ f. line-good (record {
         fields = contract-in c a;
         id = fresh-in earlier (c .id) b;
         cap = leb-true y most-exponent d;
         moves = le-true (pos 1) (t .halfmove .0) e;
-        inside = inside-in t m k f;
+        inside = inside-in (t .factors) m k f;
       }))
-      (λ f. line-bad TableReason.Corridor (Fault.limit (contract-in c a) (fresh-in earlier (c .id) b) (leb-true y most-exponent d) (le-true (pos 1) (t .halfmove .0) e) (denied (inside-bounds t m k) (inside-test t m k) f))))
+      (λ f. line-bad TableReason.Corridor (Fault.limit (contract-in c a) (fresh-in earlier (c .id) b) (leb-true y most-exponent d) (le-true (pos 1) (t .halfmove .0) e) (denied (inside-bounds (t .factors) m k) (inside-test (t .factors) m k) f))))
       (λ e. line-bad TableReason.HalfMove (Fault.half-move (contract-in c a) (fresh-in earlier (c .id) b) (leb-true y most-exponent d) (le-false (pos 1) (t .halfmove .0) e))))
       (λ d. line-bad TableReason.Exponent (Fault.exponent (contract-in c a) (fresh-in earlier (c .id) b) (leb-false y most-exponent d))))
       (λ b. line-bad TableReason.Id (Fault.id (contract-in c a) (denied (id-good (lines-of earlier) (c .id)) (fresh-test earlier (c .id)) b))))
@@ -90,4 +90,4 @@ module _ (shift : Millionths) (keys : List Key) where
       let t = its-terms shift keys c in
       let m = market-of c in
       let k = its-corridor shift keys c in
-      rw (fields-test c a, fresh-test earlier (c .id) b, le-leb _ _ d, true-le e, refuted (inside-bounds t m k) (inside-in t m k) f)
+      rw (fields-test c a, fresh-test earlier (c .id) b, le-leb _ _ d, true-le e, refuted (inside-bounds (t .factors) m k) (inside-in (t .factors) m k) f)

@@ -102,8 +102,8 @@ half-move-most shift half1 s r =
 
 -- ---- the whole line
 module _ (shift : Millionths) (y : ℕ) (c : Contract) (s : Between 1 whole (shift .0)) (r : ContractIn c) where
-  line-in : 0 < c .id → y ≤ most-exponent → pos 1 ≤ℤ (terms-of shift y c .halfmove .0) → inside-bounds (terms-of shift y c) (market-of c) (corridor (c .width) (terms-of shift y c) (market-of c)) ≡ true
-      → LineIn (fresh-line (terms-of shift y c) (market-of c) (corridor (c .width) (terms-of shift y c) (market-of c)))
+  line-in : 0 < c .id → y ≤ most-exponent → pos 1 ≤ℤ (terms-of shift y c .halfmove .0) → inside-bounds (terms-of shift y c .factors) (market-of c) (corridor (c .width) (terms-of shift y c .factors) (market-of c)) ≡ true
+      → LineIn (fresh-line (terms-of shift y c) (market-of c) (corridor (c .width) (terms-of shift y c .factors) (market-of c)))
   unfolding fresh-line terms-of
   line-in id cap moves inside =
       let f = factors-in y cap in
@@ -119,7 +119,7 @@ module _ (shift : Millionths) (y : ℕ) (c : Contract) (s : Between 1 whole (shi
         market = m;
         limits =
             corridor-in (c .width) (terms-of shift y c) (market-of c) (record { up = f .0; down = f .1 }) (≤ℤ-trans (omega zarith) (m .half1 .least))
-            (unfold market-of in refl) (unfold market-of in r .positive) inside;
+            (unfold market-of in r .positive) inside;
         book = refl;
         holds = refl;
       }
@@ -139,7 +139,7 @@ open-line-in shift keys earlier c l s e =
     let y = exponent (rate-at keys (c .days)) (c .days) in
     let cap = met-by (leb y most-exponent) not-opened (id .1) in
     let moves = met-by (leZ (pos 1) (terms-of shift y c .halfmove .0)) not-opened (cap .1) in
-    let inside = met-by (inside-bounds (terms-of shift y c) (market-of c) (corridor (c .width) (terms-of shift y c) (market-of c))) not-opened (moves .1) in
+    let inside = met-by (inside-bounds (terms-of shift y c .factors) (market-of c) (corridor (c .width) (terms-of shift y c .factors) (market-of c))) not-opened (moves .1) in
     subst LineIn (same-line (inside .1))
     (line-in shift y c s (contract-in c (fields .0)) (ltb-true 0 (c .id) (both _ _ (id .0) .0)) (leb-true y most-exponent (cap .0))
     (le-true (pos 1) (terms-of shift y c .halfmove .0) (moves .0)) (inside .0))

@@ -54,7 +54,7 @@ module _ (l : Line) where
 
   upper-out : Fit l → (l .limits .upper .0) ≤ℤ (redraw Up .upper .0)
   unfolding redrawn
-  upper-out f = rise (l .limits .upper .0) _ _ (upper-rises (l .terms) (l .terms .halfmove) (l .market) (f .by))
+  upper-out f = rise (l .limits .upper .0) _ _ (upper-rises (l .terms .factors) (l .terms .halfmove) (l .market) (f .by))
 
   -- the limits before the floor acts
   abbrev raw : Limits
@@ -62,7 +62,7 @@ module _ (l : Line) where
       let n : Market = moved Down (l .terms .halfmove) (l .market) in
       record {
         upper = l .limits .upper;
-        lower = steps (l .limits .lower .0 -ℤ (bound Down (l .terms) (l .market) -ℤ bound Down (l .terms) n));
+        lower = steps (l .limits .lower .0 -ℤ (bound Down (l .terms .factors) (l .market) -ℤ bound Down (l .terms .factors) n));
         frozen = l .limits .frozen;
       }
 
@@ -73,7 +73,7 @@ module _ (l : Line) where
   lower-out : Fit l → (redraw Down .lower .0) ≤ℤ (l .limits .lower .0)
   lower-out f =
       floored-below (l .limits .lower .0) raw-floored
-      (fall (l .limits .lower .0) _ _ (lower-falls (l .terms) (l .terms .halfmove) (l .market) (f .by))) (f .least)
+      (fall (l .limits .lower .0) _ _ (lower-falls (l .terms .factors) (l .terms .halfmove) (l .market) (f .by))) (f .least)
 
 -- ---- a wider corridor has a wider zone
 wider : (near : Millionths) (x w z : ℤ) → w ≤ℤ z → ltZ x (pos (near .0) *ℤ w) ≡ true → ltZ x (pos (near .0) *ℤ z) ≡ true

@@ -60,22 +60,22 @@ pub limits-moved : (side : Side) (t : Terms) (m : Market) (k : Limits) → pos 0
     → LimitsRoom t (moved side (t .halfmove) m) (redrawn side t m (moved side (t .halfmove) m) k)
 unfolding redrawn
 limits-moved Up t m k p r =
-    let b = bound Up t m in
-    let b′ = bound Up t (moved Up (t .halfmove) m) in
+    let b = bound Up (t .factors) m in
+    let b′ = bound Up (t .factors) (moved Up (t .halfmove) m) in
     record {
       upper = raised-under (k .upper .0) b b′ (r .upper);
-      lower = rw (bound-kept Up t (t .halfmove) m) (r .lower);
-      ordered = raised-over (k .lower .0) (k .upper .0) b b′ (r .ordered) (upper-rises t (t .halfmove) m p);
+      lower = rw (bound-kept Up (t .factors) (t .halfmove) m) (r .lower);
+      ordered = raised-over (k .lower .0) (k .upper .0) b b′ (r .ordered) (upper-rises (t .factors) (t .halfmove) m p);
       floor = record { least = r .floor .least; frozen-at = r .floor .frozen-at; frozen-by = r .floor .frozen-by };
     }
 limits-moved Down t m k p r =
-    let b = bound Down t m in
-    let b′ = bound Down t (moved Down (t .halfmove) m) in
-    let fall = lower-falls t (t .halfmove) m p in
+    let b = bound Down (t .factors) m in
+    let b′ = bound Down (t .factors) (moved Down (t .halfmove) m) in
+    let fall = lower-falls (t .factors) (t .halfmove) m p in
     let f = floor-of (permits-negative (t .flags)) (lowered b b′ k) in
     let s = lowered-span (t .flags) b b′ fall k (r .floor) f (r .lower) in
     record {
-      upper = rw (floored-upper f, bound-kept Down t (t .halfmove) m) (r .upper);
+      upper = rw (floored-upper f, bound-kept Down (t .factors) (t .halfmove) m) (r .upper);
       lower = s .least;
       ordered = rw (floored-upper f) (≤ℤ-trans (s .most) (r .ordered));
       floor = lowered-floor (t .flags) b b′ fall k (r .floor) f;
@@ -87,14 +87,14 @@ unfolding redrawn
 limits-wider Up t m k p r =
     let u = k .upper .0 in
     record {
-      upper = raised-over u u (bound Up t m) (bound Up t (moved Up (t .halfmove) m)) (≤ℤ-refl u) (upper-rises t (t .halfmove) m p);
+      upper = raised-over u u (bound Up (t .factors) m) (bound Up (t .factors) (moved Up (t .halfmove) m)) (≤ℤ-refl u) (upper-rises (t .factors) (t .halfmove) m p);
       lower = ≤ℤ-refl (k .lower .0);
       frozen = λ e. e;
     }
 limits-wider Down t m k p r =
-    let b = bound Down t m in
-    let b′ = bound Down t (moved Down (t .halfmove) m) in
-    let fall = lower-falls t (t .halfmove) m p in
+    let b = bound Down (t .factors) m in
+    let b′ = bound Down (t .factors) (moved Down (t .halfmove) m) in
+    let fall = lower-falls (t .factors) (t .halfmove) m p in
     let f = floor-of (permits-negative (t .flags)) (lowered b b′ k) in
     record {
       upper = rw (floored-upper f) (≤ℤ-refl (k .upper .0));

@@ -1,17 +1,17 @@
 -- The ranges of one line: they hold at opening, and are kept by a shift, which uses one of those left, and by a quote. Assumes nothing.
-use mathlib.Core.Bool.{Bool, true, false, cond}
+use mathlib.Core.Bool.{Bool, true, false}
 use Prim.Native.Nat.{ℕ, suc, _≤_, _<_}
 use native.Mathlib.Omega.{arith}
 use lib.Dec.{lit<}
-use lib.IntN.{ℤ, pos, _+ℤ_}
+use lib.IntN.{ℤ, pos, negsuc, _+ℤ_}
 use lib.Signed.{leZ-yes}
 use Rattle.numbers.specs.Ranges.{Within, Span}
 use Rattle.numbers.proofs.Halves.{zarith, apart, add-is}
 use Rattle.numbers.proofs.Linear.{≤ℤ-trans}
 use Rattle.numbers.proofs.Ranges.{within-more, within-pos, within-add, within-sub, within-mul, floor-within, ceiling-within, within-squeeze}
-use Rattle.method.specs.words.Types.{Side, Up, Down, Seconds, Millionths, Terms, Market, Limits, Absent, Book, Hold, Idle, Since, Holds, Line, steps}
+use Rattle.method.specs.words.Types.{Side, Up, Down, Seconds, Millionths, Factors, Terms, Market, Limits, Absent, Book, Hold, Idle, Since, Holds, Line, steps}
 use Rattle.method.specs.words.Ranges.{longest-session, most-shifts}
-use Rattle.method.specs.words.Bounds.{market-bound, factor, interest, bound}
+use Rattle.method.specs.words.Bounds.{market-bound, factor, interest, outward, bound}
 use Rattle.method.specs.computed.Types.{Watch, Quote}
 use Rattle.method.specs.computed.Judge.{judged, to-hold, judge, watch-of, judge-line}
 use Rattle.method.specs.computed.Shift.{toward, moved, ended, moved-line, shift-line}
@@ -20,14 +20,12 @@ use Rattle.method.specs.computed.Rooms.{largest-half-move, reach, larges
 use Rattle.method.proofs.Redrawn.{limits-moved}
 
 -- ---- interest bounds and limits within the largest bound
-cond-within : (b : Bool) {k x y : ℕ} → x ≤ k → y ≤ k → cond b x y ≤ k
-cond-within true h g = h
-cond-within false h g = g
-
-pub factor-in : (side : Side) {t : Terms} → FactorsIn t → factor side t ≤ largest-factor
+pub factor-in : (side : Side) {f : Factors} (z : ℤ) → FactorsIn f → factor side f z ≤ largest-factor
 unfolding factor
-factor-in Up {t} r = cond-within (t .negative) (omega (arith, r .down .most)) (r .up .most)
-factor-in Down {t} r = cond-within (t .negative) (r .up .most) (omega (arith, r .down .most))
+factor-in Up (pos n) r = r .up .most
+factor-in Up (negsuc n) r = omega (arith, r .down .most)
+factor-in Down (pos n) r = omega (arith, r .down .most)
+factor-in Down (negsuc n) r = r .up .most
 
 pub span-within : {k : ℕ} {z : ℤ} → Span (pos 1) (pos k) z → Within k z
 span-within {k} {z} r = record { above = omega (zarith, r .least, r .most, apart z); below = omega (zarith, r .least, apart z) }
@@ -36,26 +34,30 @@ pub market-bound-in : (side : Side) {left : ℕ} {m : Market} → MarketRoom lef
 market-bound-in Up r = within-more (within-add (r .centre) (span-within (r .half1))) (omega arith)
 market-bound-in Down r = within-more (within-sub (r .centre) (span-within (r .half1))) (omega arith)
 
-pub interest-within : (side : Side) (f : ℕ) {z : ℤ} → f ≤ largest-factor → Within largest-market-bound z → Within largest-bound (interest side f z)
+interest-within : (side : Side) (f : ℕ) {z : ℤ} → f ≤ largest-factor → Within largest-market-bound z → Within largest-bound (interest side f z)
 unfolding interest
 interest-within Up f h w = ceiling-within largest-bound 1_000_000_000 (lit< tt) (within-mul w (within-pos h))
 interest-within Down f h w = floor-within largest-bound 1_000_000_000 (lit< tt) (within-mul w (within-pos h))
 
-pub bound-in : (side : Side) {left : ℕ} {t : Terms} {m : Market} → FactorsIn t → MarketRoom left m → Within largest-bound (bound side t m)
+pub outward-within : (side : Side) {f : Factors} {z : ℤ} → FactorsIn f → Within largest-market-bound z → Within largest-bound (outward side f z)
+unfolding outward
+outward-within side {f} {z} r w = interest-within side (factor side f z) (factor-in side z r) w
+
+pub bound-in : (side : Side) {left : ℕ} {f : Factors} {m : Market} → FactorsIn f → MarketRoom left m → Within largest-bound (bound side f m)
 unfolding bound
-bound-in side {left} {t} {m} f r = interest-within side (factor side t) (factor-in side f) (market-bound-in side r)
+bound-in side f r = outward-within side f (market-bound-in side r)
 
 module _ {left : ℕ} {l : Line} (r : Room left l) where
   pub upper-in : Within largest-bound (l .limits .upper .0)
   upper-in =
       let k = r .limits in
-      within-squeeze (bound Down (l .terms) (l .market)) (l .limits .upper .0) (bound Up (l .terms) (l .market)) (≤ℤ-trans (k .lower) (k .ordered)) (k .upper)
+      within-squeeze (bound Down (l .terms .factors) (l .market)) (l .limits .upper .0) (bound Up (l .terms .factors) (l .market)) (≤ℤ-trans (k .lower) (k .ordered)) (k .upper)
       (bound-in Down (r .terms .factors) (r .market)) (bound-in Up (r .terms .factors) (r .market))
 
   pub lower-in : Within largest-bound (l .limits .lower .0)
   lower-in =
       let k = r .limits in
-      within-squeeze (bound Down (l .terms) (l .market)) (l .limits .lower .0) (bound Up (l .terms) (l .market)) (k .lower) (≤ℤ-trans (k .ordered) (k .upper))
+      within-squeeze (bound Down (l .terms .factors) (l .market)) (l .limits .lower .0) (bound Up (l .terms .factors) (l .market)) (k .lower) (≤ℤ-trans (k .ordered) (k .upper))
       (bound-in Down (r .terms .factors) (r .market)) (bound-in Up (r .terms .factors) (r .market))
 
 -- ---- room for more shifts is room for fewer

@@ -107,7 +107,7 @@ not-below w b i e h g = omega (zarith, sub-is w b, add-is b i)
 not-met : (o l : Line) → o .limits .frozen ≡ false → (permits-negative (l .terms .flags) ≡ false → pos 1 ≤ℤ (l .limits .lower .0)) → margin Down l ≡ margin Down o
     → FloorMet o l → ⊥
 not-met o l z least e (at-opening f) = true≢false (sym f ∙ z)
-not-met o l z least e (in-a-shift g h) = not-below (l .limits .lower .0) (bound Down (l .terms) (l .market)) (margin Down o) e (least g) h
+not-met o l z least e (in-a-shift g h) = not-below (l .limits .lower .0) (bound Down (l .terms .factors) (l .market)) (margin Down o) e (least g) h
 
 frozen-tells : (o l : Line) → Lower o l → (l .limits .frozen ≡ true) ↔ FloorMet o l
 frozen-tells o l (exactly z least e f) = (λ y. absurd (true≢false (sym y ∙ f)), λ x. absurd (not-met o l z least e x))
@@ -124,7 +124,7 @@ same-lower : (b b′ x y z : ℤ) → b ≡ b′ → x -ℤ b ≡ z → y -ℤ b
 same-lower b b′ x y z e p q = omega (zarith, sub-is x b, sub-is y b′)
 
 module _ (o l r : Line) (terms : l .terms ≡ r .terms) (market : l .market ≡ r .market) where
-  same-bound : (side : Side) → bound side (l .terms) (l .market) ≡ bound side (r .terms) (r .market)
+  same-bound : (side : Side) → bound side (l .terms .factors) (l .market) ≡ bound side (r .terms .factors) (r .market)
   same-bound side = rw (terms, market) refl
 
   met-same : FloorMet o l → FloorMet o r

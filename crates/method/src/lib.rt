@@ -58,11 +58,10 @@ pub struct Factors {
     pub down: Billionths,
 }
 
-// Fixed for the session. `negative` says that the settlement price was negative.
+// Fixed for the session.
 pub struct Terms {
     pub id: u32,
     pub flags: u32,
-    pub negative: bool,
     pub halfmove: Steps,
     pub factors: Factors,
 }

@@ -12,7 +12,7 @@ use Rattle.method.specs.computed.Rooms.{largest-half-move, reach, largest-bound
 use Rattle.method.specs.computed.Shift.{moved}
 use Rattle.bounds.specs.Asks.{Drawn}
 use Rattle.bounds.proofs.Drawing.{drawn-within}
-use Rattle.shifts.specs.Names.{Side, Up, Down, Terms, Market, Limits, Line}
+use Rattle.shifts.specs.Names.{Side, Up, Down, Factors, Market, Limits, Line}
 use Rattle.shifts.specs.Asks.{Carried, Redrawable, Shiftable}
 
 module _ {by z : ℤ} (h : Within largest-half-move by) (w : Within (reach 1) z) where
@@ -40,17 +40,17 @@ module _ {k : Limits} {a b : ℤ} (q : Carried k a b) where
 pub ruleset carries = (rise-fits, fall-fits, raised-fits, lowered-fits)
 
 -- ---- what a limit goes with: bounds, and any number whose range is known
-pub bound-in-reach : (side : Side) {t : Terms} {m : Market} {z : ℤ} → z ≡ bound side t m → Drawn t m → Within largest-bound z
+pub bound-in-reach : (side : Side) {f : Factors} {m : Market} {z : ℤ} → z ≡ bound side f m → Drawn f m → Within largest-bound z
 bound-in-reach side e d = rw e (drawn-within d side)
 
 pub ruleset reaches = (bound-in-reach, within-more)
 
 -- ---- a line's market and limits
 module _ {l : Line} (q : Shiftable l) where
-  here : Drawn (l .terms) (l .market)
+  here : Drawn (l .terms .factors) (l .market)
   here = record { factors = q .factors; centre = within-more (q .market .centre) (lit≤ tt); half1 = within-more (q .market .half1) (lit≤ tt) }
 
-  there : (side : Side) → Drawn (l .terms) (moved side (l .terms .halfmove) (l .market))
+  there : (side : Side) → Drawn (l .terms .factors) (moved side (l .terms .halfmove) (l .market))
   unfolding moved
   there Up = record { factors = q .factors; centre = within-add (q .market .centre) (q .market .small); half1 = within-add (q .market .half1) (q .market .small) }
   there Down = record { factors = q .factors; centre = within-sub (q .market .centre) (q .market .small); half1 = within-add (q .market .half1) (q .market .small) }

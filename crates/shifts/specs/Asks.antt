@@ -37,14 +37,14 @@ lowered-by k a b = with-lower k (k .lower .0 -ℤ (a -ℤ b))
 
 -- what limits ask that are redrawn from market m to market n
 pub record Redrawable (t : Terms) (m n : Market) (k : Limits) : Type 0 where
-  pub from : Drawn t m
-  pub to : Drawn t n
+  pub from : Drawn (t .factors) m
+  pub to : Drawn (t .factors) n
   pub limits : LimitsWithin k
 
 -- what a line asks that is moved
 pub record Shiftable (l : Line) : Type 0 where
   pub market : Movable (l .terms .halfmove .0) (l .market)
-  pub factors : FactorsIn (l .terms)
+  pub factors : FactorsIn (l .terms .factors)
   pub limits : LimitsWithin (l .limits)
 
 -- What a shift asks that leaves `left`. It asks for the whole room: that limits stay in range is a matter of their bounds.

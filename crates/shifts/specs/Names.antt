@@ -2,6 +2,7 @@
 pub use Rattle.numbers.specs.declared.Millionths.{Millionths}
 pub use Rattle.method.specs.declared.Side.{Side}
 pub use Rattle.method.specs.declared.Side.the-variants.{Up, Down}
+pub use Rattle.method.specs.declared.Factors.{Factors}
 pub use Rattle.method.specs.declared.Terms.{Terms}
 pub use Rattle.method.specs.declared.Market.{Market}
 pub use Rattle.method.specs.declared.Limits.{Limits}

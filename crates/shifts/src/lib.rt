@@ -72,8 +72,9 @@ fn redrawn(side: Side, t: Terms, m: Market, n: Market, k: Limits) -> Limits
     requires { ⌜ Redrawable t m n k ⌝ }
     ensures { λ r. ⌜ r ≡ redrawn side t m n k ⌝ }
 {
-    let from = bounds::bound(side, t, m);
-    let to = bounds::bound(side, t, n);
+    let f = t.factors;
+    let from = bounds::bound(side, f, m);
+    let to = bounds::bound(side, f, n);
     match side {
         Side::Up => raised(k, from, to),
         Side::Down => limits::floored(wire::bit_0(t.flags), lowered(k, from, to)),

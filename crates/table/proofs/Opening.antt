@@ -19,11 +19,11 @@ use Rattle.table.specs.Names.{Millionths, Billionths, Key, Contract, Ter
 pub exponent-is : (keys : List Key) (c : Contract) (r : Millionths) (y : Billionths) → r .0 ≡ rate-at keys (c .days) → y .0 ≡ exponent (r .0) (c .days) → y .0 ≡ exponent-of keys c
 exponent-is keys c r y e f = f ∙ ap (λ (n : ℕ). exponent n (c .days)) e
 
-terms-factors : (shift : Millionths) (y : ℕ) (c : Contract) → y ≤ most-exponent → FactorsIn (terms-of shift y c)
+terms-factors : (shift : Millionths) (y : ℕ) (c : Contract) → y ≤ most-exponent → FactorsIn (terms-of shift y c .factors)
 unfolding terms-of
 terms-factors shift y c h = let f = factors-in y h in record { up = f .0; down = f .1 }
 
-market-drawn : (shift : Millionths) (y : ℕ) (c : Contract) → y ≤ most-exponent → ContractIn c → Drawn (terms-of shift y c) (market-of c)
+market-drawn : (shift : Millionths) (y : ℕ) (c : Contract) → y ≤ most-exponent → ContractIn c → Drawn (terms-of shift y c .factors) (market-of c)
 market-drawn shift y c h r =
     let m = market-in c r in
     record {
@@ -33,5 +33,5 @@ market-drawn shift y c h r =
     }
 
 pub line-spanned : (shift : Millionths) (y : ℕ) (c : Contract) (t : Terms) (m : Market) → y ≤ most-exponent → ContractIn c → t ≡ terms-of shift y c
-    → m ≡ market-of c → Spanned (c .width) t m
+    → m ≡ market-of c → Spanned (c .width) (t .factors) m
 line-spanned shift y c t m h r et em = rw (et, em) (record { drawn = market-drawn shift y c h r; share = r .width })

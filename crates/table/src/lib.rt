@@ -36,7 +36,6 @@ const BLANK: Line = Line {
     terms: Terms {
         id: 0,
         flags: 0,
-        negative: false,
         halfmove: Steps(0),
         factors: Factors {
             up: Billionths(0),

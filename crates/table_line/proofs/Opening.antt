@@ -22,7 +22,7 @@ use Rattle.method.specs.computed.Rooms.{largest-bound}
 use Rattle.method.proofs.Opening.{normal-in}
 use Rattle.method.proofs.Rooms.{span-within}
 use Rattle.bounds.proofs.Drawing.{drawn-within}
-use Rattle.table_line.specs.Names.{Up, Down, Millionths, Contract, Terms, Market, Limits}
+use Rattle.table_line.specs.Names.{Up, Down, Millionths, Contract, Factors, Market, Limits}
 use Rattle.table_line.specs.Asks.{Spanned}
 
 -- ---- a size
@@ -74,7 +74,7 @@ share-fits s = omega (arith, s .most)
 pub ruleset moves = (half-move-fits, share-fits, cast-back)
 
 -- ---- a corridor, from the bounds u and l
-module _ (width : Millionths) (t : Terms) (m : Market) (s : Spanned width t m) (u l : ℤ) (eu : u ≡ bound Up t m) (el : l ≡ bound Down t m) where
+module _ (width : Millionths) (f : Factors) (m : Market) (s : Spanned width f m) (u l : ℤ) (eu : u ≡ bound Up f m) (el : l ≡ bound Down f m) where
   upper-within : Within largest-bound u
   upper-within = rw eu (drawn-within (s .drawn) Up)
 
@@ -99,20 +99,20 @@ module _ (width : Millionths) (t : Terms) (m : Market) (s : Spanned width t m) (
   pub share-times-fits : SFits w64 share-back
   share-times-fits = rw share-is (fits (within-mul (within-pos (s .share)) (within-sub upper-within lower-within)) (lit< tt))
 
-  pub half-is : floor (toZ w64 (ofZ w64 share-back)) (2 * whole) ≡ corridor-half width t m
+  pub half-is : floor (toZ w64 (ofZ w64 share-back)) (2 * whole) ≡ corridor-half width f m
   unfolding corridor-half
   half-is = rw (toZ-ofZ share-times-fits, share-is, eu, el)
 
-half-within : (width : Millionths) (t : Terms) (m : Market) → Spanned width t m → Within largest-bound (corridor-half width t m)
+half-within : (width : Millionths) (f : Factors) (m : Market) → Spanned width f m → Within largest-bound (corridor-half width f m)
 unfolding corridor-half
-half-within width t m s =
+half-within width f m s =
     floor-within largest-bound (2 * whole) (lit< tt)
     (within-more (within-mul (within-pos (s .share)) (within-sub (drawn-within (s .drawn) Up) (drawn-within (s .drawn) Down))) (lit≤ tt))
 
 -- ---- the limits, from half of the corridor
-module _ (width : Millionths) (t : Terms) (m : Market) (s : Spanned width t m) (half : ℤ) (e : half ≡ corridor-half width t m) where
+module _ (width : Millionths) (f : Factors) (m : Market) (s : Spanned width f m) (half : ℤ) (e : half ≡ corridor-half width f m) where
   half-in : Within largest-bound half
-  half-in = rw e (half-within width t m s)
+  half-in = rw e (half-within width f m s)
 
   abbrev high-back : ℤ
   high-back = toZ w64 (ofZ w64 (m .centre .0)) +ℤ toZ w64 (ofZ w64 half)
@@ -134,6 +134,6 @@ module _ (width : Millionths) (t : Terms) (m : Market) (s : Spanned width t m) (
 
   pub limits-are : _≡_ {A = Limits}
       (record { upper = steps (toZ w64 (ofZ w64 high-back)); lower = steps (toZ w64 (ofZ w64 low-back)); frozen = false })
-      (corridor width t m)
+      (corridor width f m)
   unfolding corridor
   limits-are = rw (toZ-ofZ high-fits, toZ-ofZ low-fits, high-is, low-is, e)

@@ -14,6 +14,7 @@ use bounds::limits;
 use bounds::rounding;
 use method::Book;
 use method::Contract;
+use method::Factors;
 use method::Hold;
 use method::Holds;
 use method::Limits;
@@ -99,28 +100,27 @@ pub fn terms(shift: Millionths, y: Billionths, c: Contract) -> Terms
     Terms {
         id: c.id,
         flags: wire::rebuilt(c.flags),
-        negative: c.price.0 < 0,
         halfmove: half_move(shift, half_width(c, rate1)),
         factors: growth::factors(y),
     }
 }
 
-fn corridor_half(width: Millionths, t: Terms, m: Market) -> Steps
-    requires { ⌜ Spanned width t m ⌝ }
-    ensures { λ r. ⌜ r .0 ≡ corridor-half width t m ⌝ }
+fn corridor_half(width: Millionths, f: Factors, m: Market) -> Steps
+    requires { ⌜ Spanned width f m ⌝ }
+    ensures { λ r. ⌜ r .0 ≡ corridor-half width f m ⌝ }
 {
-    let upper = bounds::bound(Side::Up, t, m);
-    let lower = bounds::bound(Side::Down, t, m);
+    let upper = bounds::bound(Side::Up, f, m);
+    let lower = bounds::bound(Side::Down, f, m);
     let share = (width.0 as u64) as i64;
     rounding::rounded(Side::Down, share * (upper.0 - lower.0), TWICE_WHOLE)
 }
 
 // The limits P + half and P - half, before they are held against their bounds.
-fn corridor(width: Millionths, t: Terms, m: Market) -> Limits
-    requires { ⌜ Spanned width t m ⌝ }
-    ensures { λ r. ⌜ r ≡ corridor width t m ⌝ }
+fn corridor(width: Millionths, f: Factors, m: Market) -> Limits
+    requires { ⌜ Spanned width f m ⌝ }
+    ensures { λ r. ⌜ r ≡ corridor width f m ⌝ }
 {
-    let half = corridor_half(width, t, m);
+    let half = corridor_half(width, f, m);
     let centre = m.centre;
     Limits {
         upper: Steps(centre.0 + half.0),
@@ -130,12 +130,12 @@ fn corridor(width: Millionths, t: Terms, m: Market) -> Limits
 }
 
 // Neither limit beyond its interest bound (refusal 9).
-fn inside_bounds(t: Terms, m: Market, k: Limits) -> bool
-    requires { ⌜ Drawn t m ⌝ }
-    ensures { λ r. ⌜ r ≡ inside-bounds t m k ⌝ }
+fn inside_bounds(f: Factors, m: Market, k: Limits) -> bool
+    requires { ⌜ Drawn f m ⌝ }
+    ensures { λ r. ⌜ r ≡ inside-bounds f m k ⌝ }
 {
-    let upper = bounds::bound(Side::Up, t, m);
-    let lower = bounds::bound(Side::Down, t, m);
+    let upper = bounds::bound(Side::Up, f, m);
+    let lower = bounds::bound(Side::Down, f, m);
     if k.upper.0 <= upper.0 {
         return lower.0 <= k.lower.0;
     }
@@ -164,16 +164,17 @@ fn fresh_line(t: Terms, m: Market, k: Limits) -> Line
 
 // The last two refusals of a contract, 8 and 9, or its line.
 pub fn opened_with(width: Millionths, t: Terms, m: Market) -> LineAnswer
-    requires { ⌜ Spanned width t m ⌝ }
+    requires { ⌜ Spanned width (t .factors) m ⌝ }
     ensures { λ r. ⌜ r ≡ opened-with width t m ⌝ }
 {
     if t.halfmove.0 < 1 {
         return LineAnswer::Refused(TableReason::HalfMove);
     }
-    let k = corridor(width, t, m);
+    let f = t.factors;
+    let k = corridor(width, f, m);
     let line = fresh_line(t, m, k);
     // The limits before the floor: a lower limit beyond its bound is refused, though the floor would lift it.
-    if inside_bounds(t, m, k) {
+    if inside_bounds(f, m, k) {
         return LineAnswer::Opened(line);
     }
     LineAnswer::Refused(TableReason::Corridor)

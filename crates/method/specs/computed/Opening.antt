@@ -6,7 +6,7 @@ use lib.Dec.{ltb, leb}
 use lib.IntN.{pos}
 use lib.Signed.{leZ}
 use Rattle.numbers.specs.Tests.{in-span, in-range, between}
-use Rattle.method.specs.words.Types.{Millionths, Key, Contract, Up, Down, Terms, Market, Limits, Line, TableReason}
+use Rattle.method.specs.words.Types.{Millionths, Key, Contract, Up, Down, Factors, Terms, Market, Limits, Line, TableReason}
 use Rattle.method.specs.words.Ranges.{whole, most-days, largest-price, permits-negative}
 use Rattle.method.specs.words.Growth.{most-exponent}
 use Rattle.method.specs.words.Bounds.{bound}
@@ -33,14 +33,14 @@ ids ls = map (λ (l : Line). l .terms .id) ls
 unfoldable pub id-good : List Line → ℕ → Bool
 id-good earlier id = ltb 0 id && not (listed id (ids earlier))
 
-unfoldable pub inside-bounds : Terms → Market → Limits → Bool
-inside-bounds t m k = leZ (k .upper .0) (bound Up t m) && leZ (bound Down t m) (k .lower .0)
+unfoldable pub inside-bounds : Factors → Market → Limits → Bool
+inside-bounds f m k = leZ (k .upper .0) (bound Up f m) && leZ (bound Down f m) (k .lower .0)
 
 unfoldable pub opened-with : Millionths → Terms → Market → LineAnswer
 opened-with width t m =
     demand (leZ (pos 1) (t .halfmove .0)) (LineAnswer.Refused TableReason.HalfMove)
-    (demand (inside-bounds t m (corridor width t m)) (LineAnswer.Refused TableReason.Corridor)
-    (LineAnswer.Opened (fresh-line t m (corridor width t m))))
+    (demand (inside-bounds (t .factors) m (corridor width (t .factors) m)) (LineAnswer.Refused TableReason.Corridor)
+    (LineAnswer.Opened (fresh-line t m (corridor width (t .factors) m))))
 
 unfoldable pub open-line : Millionths → List Key → List Line → Contract → LineAnswer
 open-line shift keys earlier c =

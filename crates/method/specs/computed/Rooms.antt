@@ -7,7 +7,7 @@ use lib.IntN.{pos}
 use lib.ListN.{length}
 use lib.Signed.{_≤ℤ_}
 use Rattle.numbers.specs.Ranges.{Within, Between, Span}
-use Rattle.method.specs.words.Types.{Up, Down, Terms, Market, Limits, Price, Absent, Given, Book, Hold, Idle, Since, Holds, Line, seconds, State, empty-book, no-holds}
+use Rattle.method.specs.words.Types.{Up, Down, Factors, Terms, Market, Limits, Price, Absent, Given, Book, Hold, Idle, Since, Holds, Line, seconds, State, empty-book, no-holds}
 use Rattle.method.specs.words.Ranges.{most-contracts, longest-session, longest-hold, most-shifts, largest-near-share, largest-price, largest-quote, permits-negative, Every}
 use Rattle.method.specs.words.Bounds.{bound}
 use Rattle.method.specs.computed.Types.{Event, Damaged, Tick, Quoted}
@@ -45,15 +45,15 @@ abbrev pub largest-limit : ℕ
 largest-limit = 1_000_000_000_000
 
 -- ---- a line
-pub record FactorsIn (t : Terms) : Type 0 where
-  pub up : Between 1_000_000_000 largest-factor (t .factors .up .0)
-  pub down : Between least-factor 1_000_000_000 (t .factors .down .0)
+pub record FactorsIn (f : Factors) : Type 0 where
+  pub up : Between 1_000_000_000 largest-factor (f .up .0)
+  pub down : Between least-factor 1_000_000_000 (f .down .0)
 
 pub record TermsIn (t : Terms) : Type 0 where
   pub id : 0 < t .id
   pub flags : t .flags < 4
   pub halfmove : Span (pos 1) (pos largest-half-move) (t .halfmove .0)
-  pub factors : FactorsIn t
+  pub factors : FactorsIn (t .factors)
 
 pub record MarketIn (m : Market) : Type 0 where
   pub centre : Within largest-price (m .centre .0)
@@ -69,8 +69,8 @@ pub record Floor (k : Limits) (flags : ℕ) : Type 0 where
 
 -- Both limits lie between the interest bounds, and the centre between the limits.
 pub record LimitsIn (t : Terms) (m : Market) (k : Limits) : Type 0 where
-  pub upper : (k .upper .0) ≤ℤ (bound Up t m)
-  pub lower : (bound Down t m) ≤ℤ (k .lower .0)
+  pub upper : (k .upper .0) ≤ℤ (bound Up (t .factors) m)
+  pub lower : (bound Down (t .factors) m) ≤ℤ (k .lower .0)
   pub over-centre : (m .centre .0) ≤ℤ (k .upper .0)
   pub under-centre : (k .lower .0) ≤ℤ (m .centre .0)
   pub floor : Floor k (t .flags)
@@ -100,8 +100,8 @@ pub record MarketRoom (most : ℕ) (m : Market) : Type 0 where
   pub half3 : Span (pos 1) (pos (reach most)) (m .half3 .0)
 
 pub record LimitsRoom (t : Terms) (m : Market) (k : Limits) : Type 0 where
-  pub upper : (k .upper .0) ≤ℤ (bound Up t m)
-  pub lower : (bound Down t m) ≤ℤ (k .lower .0)
+  pub upper : (k .upper .0) ≤ℤ (bound Up (t .factors) m)
+  pub lower : (bound Down (t .factors) m) ≤ℤ (k .lower .0)
   pub ordered : (k .lower .0) ≤ℤ (k .upper .0)
   pub floor : Floor k (t .flags)
 

@@ -20,10 +20,10 @@ moved side by m =
 
 -- the limits after it, where the market was m and is n
 unfoldable pub redrawn : Side → Terms → Market → Market → Limits → Limits
-redrawn Up t m n k = record { upper = steps (k .upper .0 +ℤ (bound Up t n -ℤ bound Up t m)); lower = k .lower; frozen = k .frozen }
+redrawn Up t m n k = record { upper = steps (k .upper .0 +ℤ (bound Up (t .factors) n -ℤ bound Up (t .factors) m)); lower = k .lower; frozen = k .frozen }
 redrawn Down t m n k =
     floored (permits-negative (t .flags))
-    (record { upper = k .upper; lower = steps (k .lower .0 -ℤ (bound Down t m -ℤ bound Down t n)); frozen = k .frozen })
+    (record { upper = k .upper; lower = steps (k .lower .0 -ℤ (bound Down (t .factors) m -ℤ bound Down (t .factors) n)); frozen = k .frozen })
 
 -- the shifted side's hold ends
 abbrev pub ended : Side → Holds → Holds

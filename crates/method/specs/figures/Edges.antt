@@ -1,14 +1,14 @@
--- Figures that pin what no rule pins: the half-widths of all three levels, the exponent's cap from both sides, and lines that do not press because
--- they are not watched or are frozen. One table under one claim. Assumes nothing.
+-- Figures that pin what no rule pins: the half-widths of all three levels, the exponent's cap from both sides, bounds near zero and over it, and
+-- lines that do not press because they are not watched or are frozen. One table under one claim. Assumes nothing.
 use mathlib.Core.List.{List, [], _∷_, _++_, map}
 use mathlib.Core.Path.{_≡_, refl}
-use Prim.Native.Nat.{ℕ}
+use Prim.Native.Nat.{ℕ, _-_}
 use lib.IntN.{ℤ, pos, negsuc}
 use Rattle.method.specs.words.Types.{Contract, Line, steps, millionths}
 use Rattle.method.specs.words.Wire.{word, signed, bit}
 use Rattle.method.specs.words.Layout.{header-of, key-at, contract-at, keys-at, contracts-at}
 use Rattle.method.specs.words.Growth.{between-keys, rate-from, rate-by-keys, rate-at, exponent, term, series, up-factor, down-factor, factors-of}
-use Rattle.method.specs.words.Bounds.{factor, interest, bound}
+use Rattle.method.specs.words.Bounds.{factor, interest, outward, bound}
 use Rattle.method.specs.words.Opening.{normal-price, half-width, market-of, half-move, terms-of, corridor-half, corridor, floored, fresh-line}
 use Rattle.method.specs.words.Tables.{opening-state}
 use Rattle.method.specs.words.Pressure.{close, presses}
@@ -24,7 +24,7 @@ use Rattle.method.specs.computed.Shift.{moved, redrawn, moved-line, shif
 use Rattle.method.specs.computed.Event.{read-tick, read-quote, read, in-session, not-crossed, verdict, quoted-line, quoted, applied, next}
 use Rattle.method.specs.computed.Search.{due-of, ahead, sooner, passed, earliest, in-time, next-due, serve, served-by, answer, run, finally}
 use Rattle.method.specs.computed.Program.{session-rows, rows-after, program}
-use Rattle.method.specs.figures.Inputs.{table, tick, bid, ask, line, of-line, Figure, figure}
+use Rattle.method.specs.figures.Inputs.{table, tick, bid, ask, contract, line, of-line, bounds, both-limits, Figure, figure}
 
 -- ---- three levels with rates of their own, at P 1,000 and shift share 500,000
 abbrev levels : ℤ → ℤ → ℕ → ℕ → ℕ → Contract
@@ -63,6 +63,21 @@ plain flags events = one 0 1_000 90 100_000 500_000 flags 1 events
 abbrev low : ℕ → ℕ → List ℕ → List ℤ
 low width flags events = one 0 30 365 1_000_000 width flags 1 events
 
+-- ---- near zero: half-width 100 and half-move 25, at the exponent 100,000,000, whose factors are 1.105170916 and 0.904837419
+abbrev near-zero : ℤ → ℕ → Contract
+near-zero price width = contract price (pos 1_000) 100_000 width 3
+
+-- and as a whole input, with P as its word, and spot 0
+abbrev over-zero : ℕ → List ℕ → List ℤ
+over-zero price events =
+    numbers-of
+    (program
+    (table 1_000 2 1 1
+    (365 ∷ 100_000 ∷ price ∷ 0 ∷ 1_000 ∷ 100_000 ∷ 100_000 ∷ 100_000 ∷ 500_000 ∷ 365 ∷ 7 ∷ 3 ∷ events)))
+
+abbrev minus : ℕ → ℕ
+minus n = 4_294_967_296 - n
+
 -- a shift line of contract 7, and the closing line of it
 abbrev shift : ℕ → ℕ → List ℤ
 shift second side = map pos (1 ∷ second ∷ side ∷ 7 ∷ 0 ∷ 0 ∷ [])
@@ -84,6 +99,18 @@ edges =
     ∷ figure (closed (pos 45_754_586) (pos 154_245_414) (pos 30_326_533) (pos 247_308_191)) (one 50_000 100_000_000 3_650 500_000 500_000 2 1 [])
     ∷ figure (closed (pos 683) (pos 1_317) (pos 545) (pos 1_814)) (one 249_658 1_000 731 100_000 500_000 2 1 [])
     ∷ figure (map pos (3 ∷ 7 ∷ 1 ∷ 0 ∷ 0 ∷ 0 ∷ [])) (one 106_043 1_000 1_721 100_000 500_000 2 1 [])
+    -- Each bound by its own sign. P -10 with the share 950,000: limits 95 and -115, inside their bounds 100 and -122. P 0: both bounds take the up
+    -- factor. A market bound of exactly 0 stays 0.
+    ∷ figure (pos 95 ∷ negsuc 114 ∷ []) (of-line both-limits (line 100_000 (near-zero (negsuc 9) 950_000)))
+    ∷ figure (pos 111 ∷ negsuc 110 ∷ []) (of-line bounds (line 100_000 (near-zero (pos 0) 500_000)))
+    ∷ figure (pos 0 ∷ negsuc 221 ∷ []) (of-line bounds (line 100_000 (near-zero (negsuc 99) 500_000)))
+    ∷ figure (pos 222 ∷ pos 0 ∷ []) (of-line bounds (line 100_000 (near-zero (pos 100) 500_000)))
+    -- Shifts that carry a bound over zero, by the down factor before and by the up factor after: upward -36 to 12 and the limit with it from -83 to
+    -- -35; downward 36 to -12 and 83 to 35. In two shifts by way of 0: -45, 0, 56, the limit -92, -47, 9; and downward the same, turned round.
+    ∷ figure (shift 70 0 ++ closed (negsuc 196) (negsuc 34) (negsuc 265) (pos 12)) (over-zero (minus 140) (bid 10 7 (minus 83) (tick 1_000 [])))
+    ∷ figure (shift 70 1 ++ closed (pos 35) (pos 197) (negsuc 11) (pos 266)) (over-zero 140 (ask 10 7 83 (tick 1_000 [])))
+    ∷ figure (shift 70 0 ++ shift 130 0 ++ closed (negsuc 207) (pos 9) (negsuc 276) (pos 56)) (over-zero (minus 150) (bid 10 7 2_000 (tick 1_000 [])))
+    ∷ figure (shift 70 1 ++ shift 130 1 ++ closed (negsuc 8) (pos 208) (negsuc 55) (pos 277)) (over-zero 150 (ask 10 7 (minus 2_000) (tick 1_000 [])))
     -- A bid on the upper limit, an ask on the lower: a watched line shifts at 70, one without watch never.
     ∷ figure (shift 70 0 ++ closed (pos 950) (pos 1_100) (pos 900) (pos 1_150)) (plain 2 (bid 10 7 1_050 (tick 69 (tick 1_000 []))))
     ∷ figure (closed (pos 950) (pos 1_050) (pos 900) (pos 1_100)) (plain 0 (bid 10 7 1_050 (tick 69 (tick 1_000 []))))
@@ -99,5 +126,5 @@ edges =
 
 -- Each is what the definitions give.
 pub edges-claim : map (λ f. f .computed) edges ≡ map (λ f. f .printed) edges
-unfolding word signed bit table-number event-number between-keys rate-from rate-by-keys rate-at exponent term series up-factor down-factor factors-of factor interest bound rates-good fields-good listed id-good normal-price half-width market-of half-move terms-of corridor-half corridor inside-bounds floored fresh-line opened-with open-line header-of key-at contract-at keys-at contracts-at header-good laid-out key-good bad-key opening-state open-lines open-records opening close presses judged judge judge-line moved redrawn moved-line shift-line most-left shifted after read-tick read-quote read in-session not-crossed verdict quoted-line quoted applied next due-of ahead sooner passed earliest in-time next-due serve served-by answer run finally rows-of rows-of-all closing-row session-rows pieces rows-after program row-numbers
+unfolding word signed bit table-number event-number between-keys rate-from rate-by-keys rate-at exponent term series up-factor down-factor factors-of factor interest outward bound rates-good fields-good listed id-good normal-price half-width market-of half-move terms-of corridor-half corridor inside-bounds floored fresh-line opened-with open-line header-of key-at contract-at keys-at contracts-at header-good laid-out key-good bad-key opening-state open-lines open-records opening close presses judged judge judge-line moved redrawn moved-line shift-line most-left shifted after read-tick read-quote read in-session not-crossed verdict quoted-line quoted applied next due-of ahead sooner passed earliest in-time next-due serve served-by answer run finally rows-of rows-of-all closing-row session-rows pieces rows-after program row-numbers
 edges-claim = refl

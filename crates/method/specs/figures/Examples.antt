@@ -10,7 +10,7 @@ use Rattle.method.specs.words.Types.{Contract, Up, Down, Given, Line, st
 use Rattle.method.specs.words.Wire.{word, signed, bit}
 use Rattle.method.specs.words.Layout.{header-of, key-at, contract-at, table-length, keys-at, contracts-at}
 use Rattle.method.specs.words.Growth.{between-keys, rate-from, rate-by-keys, rate-at, exponent, term, series, up-factor, down-factor, factors-of}
-use Rattle.method.specs.words.Bounds.{factor, interest, bound}
+use Rattle.method.specs.words.Bounds.{factor, interest, outward, bound}
 use Rattle.method.specs.words.Opening.{normal-price, half-width, market-of, half-move, terms-of, corridor-half, corridor, floored, fresh-line}
 use Rattle.method.specs.words.Tables.{Opening, opened, refused, opening-state}
 use Rattle.method.specs.words.Pressure.{close, presses}
@@ -86,7 +86,7 @@ zero-width l =
 
 -- the upper interest bound after n up shifts
 abbrev risen : ℕ → Line → List ℤ
-risen zero l = bound Up (l .terms) (l .market) ∷ []
+risen zero l = bound Up (l .terms .factors) (l .market) ∷ []
 risen (suc n) l = risen n (moved-line Up l)
 
 -- a table of these bytes is refused with this number and line
@@ -112,8 +112,8 @@ examples =
     ∷ figure (pos 25 ∷ pos 7 ∷ [])
     (of-line half-moved (line 1_000_000 (thousand (pos 1_000) 500_000 182))
     ++ of-line half-moved (line 1_000_000 (thousand (pos 1_000) 500_000 183)))
-    -- A2. The limits are held against their bounds before the floor: a lower limit of -22, its bound -19.
-    ∷ figure (negsuc 21 ∷ pos 9 ∷ []) (raw-lower 100_000 (low 10 1_000_000) ++ of-line standing (line 100_000 (low 10 1_000_000)))
+    -- A2. The limits are held against their bounds before the floor: a lower limit of -24, its bound -23.
+    ∷ figure (negsuc 23 ∷ pos 9 ∷ []) (raw-lower 100_000 (low 10 1_000_000) ++ of-line standing (line 100_000 (low 10 1_000_000)))
     -- A3. A lower limit of exactly 1 is not frozen; a down shift leaves it at 1, frozen.
     ∷ figure (map pos (59 ∷ 1 ∷ 0 ∷ [])) (of-line standing (line 0 (low 30 966_667)))
     ∷ figure (pos 7 ∷ pos 23 ∷ pos 37 ∷ negsuc 13 ∷ pos 1 ∷ pos 1 ∷ []) (of-line shifted-down (line 0 (low 30 966_667)))
@@ -174,9 +174,8 @@ examples =
     ∷ figure (map pos (1_000 ∷ 1_000 ∷ 0 ∷ 1 ∷ 0 ∷ 1 ∷ [])) (of-line zero-width (line 0 (thousand (pos 1_000) 0 365)))
     -- A line that is not under watch never holds.
     ∷ figure [] (shifts (program (table 1_000 2 1 1 (365 ∷ 0 ∷ sample-fields 500_000 7 0 (bid 10 7 2_000_000_000 (tick 1_000 []))))))
-    -- A spot below zero counts by its size, the half-width is 100; and P = 0 is not below zero: the upper bound takes the up factor.
+    -- A spot below zero counts by its size: the half-width is 100.
     ∷ figure (map pos (1_100 ∷ 900 ∷ [])) (of-line bounds (line 0 (thousand (negsuc 999) 500_000 365)))
-    ∷ figure (pos 111 ∷ negsuc 90 ∷ []) (of-line bounds (line 100_000 (contract (pos 0) (pos 1_000) 100_000 500_000 1)))
     -- B1. Same side, same second: 8's hold ends with 7's shift and starts anew.
     ∷ example (ups (70 ∷ 130 ∷ [])) 1_000 16 both (bid 10 7 1_200 (bid 10 8 1_200 (tick 130 [])))
     -- B2. A younger hold of the shifted side ends too: 130 U 8, not 100 U 8.
@@ -233,5 +232,5 @@ examples =
 
 -- Every example is what the definitions give.
 pub examples-claim : map (λ f. f .computed) examples ≡ map (λ f. f .printed) examples
-unfolding word signed bit table-number between-keys rate-from rate-by-keys rate-at exponent term series up-factor down-factor factors-of factor interest bound rates-good fields-good listed id-good normal-price half-width market-of half-move terms-of corridor-half corridor inside-bounds floored fresh-line opened-with open-line header-of key-at contract-at keys-at contracts-at header-good laid-out key-good bad-key opening-state open-lines open-records opening close presses judged judge judge-line moved redrawn moved-line shift-line most-left shifted after read-tick read-quote read in-session not-crossed verdict quoted-line quoted applied next due-of ahead sooner passed earliest in-time next-due serve served-by answer run finally rows-of rows-of-all closing-row session-rows pieces rows-after program row-numbers event-number event-said limits-said place-said line-of limits placed place
+unfolding word signed bit table-number between-keys rate-from rate-by-keys rate-at exponent term series up-factor down-factor factors-of factor interest outward bound rates-good fields-good listed id-good normal-price half-width market-of half-move terms-of corridor-half corridor inside-bounds floored fresh-line opened-with open-line header-of key-at contract-at keys-at contracts-at header-good laid-out key-good bad-key opening-state open-lines open-records opening close presses judged judge judge-line moved redrawn moved-line shift-line most-left shifted after read-tick read-quote read in-session not-crossed verdict quoted-line quoted applied next due-of ahead sooner passed earliest in-time next-due serve served-by answer run finally rows-of rows-of-all closing-row session-rows pieces rows-after program row-numbers event-number event-said limits-said place-said line-of limits placed place
 examples-claim = refl

@@ -7,7 +7,7 @@ use Rattle.method.specs.words.Types.{Key, Contract, millionths}
 use Rattle.method.specs.words.Wire.{word, signed, bit}
 use Rattle.method.specs.words.Layout.{header-of, key-at, contract-at, keys-at, contracts-at}
 use Rattle.method.specs.words.Growth.{between-keys, rate-from, rate-by-keys, rate-at, exponent, term, series, up-factor, down-factor, factors-of}
-use Rattle.method.specs.words.Bounds.{factor, interest, bound}
+use Rattle.method.specs.words.Bounds.{factor, interest, outward, bound}
 use Rattle.method.specs.words.Opening.{normal-price, half-width, market-of, half-move, terms-of, corridor-half, corridor, floored, fresh-line}
 use Rattle.method.specs.words.Tables.{opening-state}
 use Rattle.method.specs.words.Pressure.{close, presses}
@@ -58,9 +58,9 @@ starred =
     -- 25.6: a lower limit beyond its bound, refused
     ∷ figure (pos 799 ∷ []) (raw-lower 100_000 (thousand 1_000_000))
     ∷ figure (pos 9 ∷ []) (of-line both-limits (line 100_000 (thousand 1_000_000)))
-    -- 25.7: a negative price, for which the factors change places
-    ∷ figure (pos 82 ∷ negsuc 121 ∷ []) (of-line bounds (line 100_000 minus-ten))
-    ∷ figure (pos 41 ∷ negsuc 60 ∷ []) (of-line both-limits (line 100_000 minus-ten))
+    -- 25.7: market bounds on both sides of zero, each of which takes the up factor
+    ∷ figure (pos 100 ∷ negsuc 121 ∷ []) (of-line bounds (line 100_000 minus-ten))
+    ∷ figure (pos 45 ∷ negsuc 64 ∷ []) (of-line both-limits (line 100_000 minus-ten))
     -- 25.8: a lower limit that meets the floor in a shift
     ∷ figure (map pos (57 ∷ 3 ∷ [])) (of-line both-limits (line 0 thirty))
     ∷ figure (pos 7 ∷ pos 23 ∷ pos 37 ∷ negsuc 13 ∷ pos 1 ∷ pos 1 ∷ []) (of-line shifted-down (line 0 thirty))
@@ -74,5 +74,5 @@ starred =
 
 -- Every starred figure is what the definitions give.
 pub starred-claim : map (λ f. f .computed) starred ≡ map (λ f. f .printed) starred
-unfolding word signed bit table-number event-number between-keys rate-from rate-by-keys rate-at exponent term series up-factor down-factor factors-of factor interest bound rates-good fields-good listed id-good normal-price half-width market-of half-move terms-of corridor-half corridor inside-bounds floored fresh-line opened-with open-line header-of key-at contract-at keys-at contracts-at header-good laid-out key-good bad-key opening-state open-lines open-records opening close presses judged judge judge-line moved redrawn moved-line shift-line most-left shifted after read-tick read-quote read in-session not-crossed verdict quoted-line quoted applied next due-of ahead sooner passed earliest in-time next-due serve served-by answer run finally rows-of rows-of-all closing-row session-rows pieces rows-after program row-numbers
+unfolding word signed bit table-number event-number between-keys rate-from rate-by-keys rate-at exponent term series up-factor down-factor factors-of factor interest outward bound rates-good fields-good listed id-good normal-price half-width market-of half-move terms-of corridor-half corridor inside-bounds floored fresh-line opened-with open-line header-of key-at contract-at keys-at contracts-at header-good laid-out key-good bad-key opening-state open-lines open-records opening close presses judged judge judge-line moved redrawn moved-line shift-line most-left shifted after read-tick read-quote read in-session not-crossed verdict quoted-line quoted applied next due-of ahead sooner passed earliest in-time next-due serve served-by answer run finally rows-of rows-of-all closing-row session-rows pieces rows-after program row-numbers
 starred-claim = refl

@@ -4,9 +4,9 @@ use Prim.Native.Nat.{ℕ, _+_, _*_, _/_, _%_}
 use lib.IntN.{ℤ, pos}
 use lib.ListN.{length}
 use Rattle.method.specs.words.Types.{Key, Contract, Up, Down, Line, steps, millionths}
-use Rattle.method.specs.words.Growth.{rate-at, exponent}
+use Rattle.method.specs.words.Growth.{rate-at, exponent, factors-of}
 use Rattle.method.specs.words.Bounds.{bound}
-use Rattle.method.specs.words.Opening.{market-of, terms-of, corridor}
+use Rattle.method.specs.words.Opening.{market-of, corridor}
 use Rattle.method.specs.words.Tables.{Opening, opened, refused}
 use Rattle.method.specs.told.Types.{Row}
 use Rattle.method.specs.told.Refusals.{table-number, event-number, mark}
@@ -89,7 +89,7 @@ line rate c = open-line (millionths 500_000) (key rate) [] c
 -- the raw lower limit, before it is held against its bound
 abbrev pub raw-lower : ℕ → Contract → List ℤ
 raw-lower rate c =
-    corridor (c .width) (terms-of (millionths 500_000) (exponent (rate-at (key rate) (c .days)) (c .days)) c) (market-of c) .lower .0 ∷ []
+    corridor (c .width) (factors-of (exponent (rate-at (key rate) (c .days)) (c .days))) (market-of c) .lower .0 ∷ []
 
 -- ---- what is read off an answer
 -- of an opened line, or the number that it is refused with
@@ -98,7 +98,7 @@ of-line f (LineAnswer.Opened l) = f l
 of-line f (LineAnswer.Refused why) = pos (table-number why) ∷ []
 
 abbrev pub bounds : Line → List ℤ
-bounds l = bound Up (l .terms) (l .market) ∷ bound Down (l .terms) (l .market) ∷ []
+bounds l = bound Up (l .terms .factors) (l .market) ∷ bound Down (l .terms .factors) (l .market) ∷ []
 
 abbrev pub both-limits : Line → List ℤ
 both-limits l = l .limits .upper .0 ∷ l .limits .lower .0 ∷ []
@@ -108,7 +108,7 @@ abbrev pub shifted-down : Line → List ℤ
 shifted-down l =
     let n : Line = moved-line Down l in
     l .terms .halfmove .0
-    ∷ n .market .centre .0 ∷ n .market .half1 .0 ∷ bound Down (n .terms) (n .market) ∷ n .limits .lower .0 ∷ mark (n .limits .frozen) ∷ []
+    ∷ n .market .centre .0 ∷ n .market .half1 .0 ∷ bound Down (n .terms .factors) (n .market) ∷ n .limits .lower .0 ∷ mark (n .limits .frozen) ∷ []
 
 -- a table's number and line, or nothing where it opens
 abbrev pub table-refusal : Opening → List ℤ

@@ -6,7 +6,7 @@ use lib.IntN.{pos}
 use Rattle.method.specs.words.Types.{Absent, Given, Idle, Since, Line, steps, seconds, billionths, State}
 use Rattle.method.specs.words.Wire.{word}
 use Rattle.method.specs.words.Layout.{header-of}
-use Rattle.method.specs.words.Bounds.{factor, interest, bound}
+use Rattle.method.specs.words.Bounds.{factor, interest, outward, bound}
 use Rattle.method.specs.words.Tables.{opening-state}
 use Rattle.method.specs.told.Refusals.{event-number, Said, report-said}
 use Rattle.method.specs.told.Questions.{listed, line-of}
@@ -22,7 +22,6 @@ sample-line =
           record {
             id = 7;
             flags = 2;
-            negative = false;
             halfmove = steps (pos 25);
             factors = record { up = billionths 1_000_000_000; down = billionths 1_000_000_000 };
           };
@@ -47,10 +46,10 @@ sample-report =
     }
 
 pub report-figure : report-said (report 7 sample-state) ≡ sample-report
-unfolding word header-of opening-state factor interest bound listed line-of event-number report-said market-bounds interest-bounds hold-report line-report report
+unfolding word header-of opening-state factor interest outward bound listed line-of event-number report-said market-bounds interest-bounds hold-report line-report report
 report-figure = refl
 
 -- an id that no line has
 pub report-refused : report-said (report 8 sample-state) ≡ record { number = 13; values = [] }
-unfolding word header-of opening-state factor interest bound listed line-of event-number report-said market-bounds interest-bounds hold-report line-report report
+unfolding word header-of opening-state factor interest outward bound listed line-of event-number report-said market-bounds interest-bounds hold-report line-report report
 report-refused = refl

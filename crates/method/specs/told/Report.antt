@@ -15,7 +15,7 @@ unfoldable pub market-bounds : Steps → Steps → BothBounds
 market-bounds centre half = bounds-by (λ side. market-bound side centre half)
 
 unfoldable pub interest-bounds : Line → BothBounds
-interest-bounds l = bounds-by (λ side. bound side (l .terms) (l .market))
+interest-bounds l = bounds-by (λ side. bound side (l .terms .factors) (l .market))
 
 -- with the second at which it is due, also where that is not before session end
 unfoldable pub hold-report : Seconds → Hold → HoldReport

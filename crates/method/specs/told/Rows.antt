@@ -25,8 +25,8 @@ closing-row l =
       id = l .terms .id;
       lower = l .limits .lower;
       upper = l .limits .upper;
-      lowerbound = steps (bound Down (l .terms) (l .market));
-      upperbound = steps (bound Up (l .terms) (l .market));
+      lowerbound = steps (bound Down (l .terms .factors) (l .market));
+      upperbound = steps (bound Up (l .terms .factors) (l .market));
     })
 
 -- ---- a row in six numbers: its kind, and its values in the printed order, with 0 in the places that it leaves free (METHOD 22.8)

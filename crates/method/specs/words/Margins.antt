@@ -9,14 +9,14 @@ use Rattle.method.specs.words.Bounds.{bound}
 
 -- how far inside its interest bound the limit of a side stands
 abbrev pub margin : Side → Line → ℤ
-margin Up l = bound Up (l .terms) (l .market) -ℤ l .limits .upper .0
-margin Down l = l .limits .lower .0 -ℤ bound Down (l .terms) (l .market)
+margin Up l = bound Up (l .terms .factors) (l .market) -ℤ l .limits .upper .0
+margin Down l = l .limits .lower .0 -ℤ bound Down (l .terms .factors) (l .market)
 
 -- The floor of one step acts on a result below 1: at opening, or in a shift. The result of the shifts, with no floor, stands exactly as far
 -- inside the lower interest bound as at opening; as that bound never rises, a result below 1 stays so.
 pub data FloorMet (o l : Line) : Type 0 where
   at-opening : o .limits .frozen ≡ true → FloorMet o l
-  in-a-shift : permits-negative (l .terms .flags) ≡ false → (bound Down (l .terms) (l .market) +ℤ margin Down o) <ℤ pos 1 → FloorMet o l
+  in-a-shift : permits-negative (l .terms .flags) ≡ false → (bound Down (l .terms .factors) (l .market) +ℤ margin Down o) <ℤ pos 1 → FloorMet o l
 
 -- The lower limit: the two cases exclude each other, and `frozen` tells which it is.
 pub data Lower (o l : Line) : Type 0 where

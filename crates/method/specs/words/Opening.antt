@@ -5,7 +5,7 @@ use Prim.Native.Nat.{ℕ, _*_}
 use lib.IntN.{ℤ, pos, _+ℤ_, _-ℤ_, _*ℤ_, natAbs}
 use lib.Signed.{ltZ}
 use Rattle.numbers.specs.Rounding.{floor, ceiling}
-use Rattle.method.specs.words.Types.{Steps, Millionths, Key, Contract, Up, Down, Terms, Market, Limits, Line, steps, empty-book, no-holds}
+use Rattle.method.specs.words.Types.{Steps, Millionths, Key, Contract, Up, Down, Factors, Terms, Market, Limits, Line, steps, empty-book, no-holds}
 use Rattle.method.specs.words.Ranges.{whole, permits-negative}
 use Rattle.method.specs.words.Growth.{rate-at, exponent, factors-of}
 use Rattle.method.specs.words.Bounds.{bound}
@@ -33,20 +33,19 @@ terms-of shift y c =
     record {
       id = c .id;
       flags = c .flags;
-      negative = ltZ (c .price .0) (pos 0);
       halfmove = half-move shift (half-width c (c .rate1));
       factors = factors-of y;
     }
 
 -- the corridor before the floor: as far from P on both sides (METHOD 9.1, 9.2)
-unfoldable pub corridor-half : Millionths → Terms → Market → ℤ
-corridor-half width t m = floor (pos (width .0) *ℤ (bound Up t m -ℤ bound Down t m)) (2 * whole)
+unfoldable pub corridor-half : Millionths → Factors → Market → ℤ
+corridor-half width f m = floor (pos (width .0) *ℤ (bound Up f m -ℤ bound Down f m)) (2 * whole)
 
-unfoldable pub corridor : Millionths → Terms → Market → Limits
-corridor width t m =
+unfoldable pub corridor : Millionths → Factors → Market → Limits
+corridor width f m =
     record {
-      upper = steps (m .centre .0 +ℤ corridor-half width t m);
-      lower = steps (m .centre .0 -ℤ corridor-half width t m);
+      upper = steps (m .centre .0 +ℤ corridor-half width f m);
+      lower = steps (m .centre .0 -ℤ corridor-half width f m);
       frozen = false;
     }
 

@@ -44,10 +44,10 @@ pub record HalfWidths (n : ℕ) (o l : Line) : Type 0 where
 -- ---- limits, over one shift from line l to line n
 -- how far the upper interest bound rose, and the lower one fell
 abbrev pub rise : Line → Line → ℤ
-rise l n = bound Up (n .terms) (n .market) -ℤ bound Up (l .terms) (l .market)
+rise l n = bound Up (n .terms .factors) (n .market) -ℤ bound Up (l .terms .factors) (l .market)
 
 abbrev pub fall : Line → Line → ℤ
-fall l n = bound Down (l .terms) (l .market) -ℤ bound Down (n .terms) (n .market)
+fall l n = bound Down (l .terms .factors) (l .market) -ℤ bound Down (n .terms .factors) (n .market)
 
 -- Up: the upper limit goes with its bound, and nothing else moves (METHOD 16.1).
 pub record LimitsUp (l n : Line) : Type 0 where

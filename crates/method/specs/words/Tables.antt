@@ -6,7 +6,7 @@ use Prim.Native.Nat.{ℕ, _≤_, _<_, suc}
 use lib.IntN.{pos}
 use lib.ListN.{length}
 use lib.Signed.{_≤ℤ_, _<ℤ_}
-use Rattle.method.specs.words.Types.{Millionths, Header, Key, Contract, Up, Down, Terms, Market, Limits, Line, TableReason, seconds, State}
+use Rattle.method.specs.words.Types.{Millionths, Header, Key, Contract, Up, Down, Factors, Terms, Market, Limits, Line, TableReason, seconds, State}
 use Rattle.method.specs.words.Layout.{header-of, contracts-start, table-length, keys-at, contracts-at}
 use Rattle.method.specs.words.Ranges.{HeaderIn, KeyIn, KeysIn, ContractIn, Every}
 use Rattle.method.specs.words.Growth.{most-exponent}
@@ -41,16 +41,16 @@ pub record Fresh (earlier : List Contract) (id : ℕ) : Type 0 where
   pub given : 0 < id
   pub new : Every (λ e. e .id ≡ id → ⊥) earlier
 
-pub record InsideBounds (t : Terms) (m : Market) (k : Limits) : Type 0 where
-  pub upper : (k .upper .0) ≤ℤ (bound Up t m)
-  pub lower : (bound Down t m) ≤ℤ (k .lower .0)
+pub record InsideBounds (f : Factors) (m : Market) (k : Limits) : Type 0 where
+  pub upper : (k .upper .0) ≤ℤ (bound Up f m)
+  pub lower : (bound Down f m) ≤ℤ (k .lower .0)
 
 module _ (shift : Millionths) (keys : List Key) where
   abbrev pub its-terms : Contract → Terms
   its-terms c = terms-of shift (exponent-of keys c) c
 
   abbrev pub its-corridor : Contract → Limits
-  its-corridor c = corridor (c .width) (its-terms c) (market-of c)
+  its-corridor c = corridor (c .width) (its-terms c .factors) (market-of c)
 
   -- the line that a good contract opens
   abbrev pub its-line : Contract → Line
@@ -61,7 +61,7 @@ module _ (shift : Millionths) (keys : List Key) where
     pub id : Fresh earlier (c .id)
     pub cap : exponent-of keys c ≤ most-exponent
     pub moves : pos 1 ≤ℤ (its-terms c .halfmove .0)
-    pub inside : InsideBounds (its-terms c) (market-of c) (its-corridor c)
+    pub inside : InsideBounds (its-terms c .factors) (market-of c) (its-corridor c)
 
   unfoldable pub GoodAll : List Contract → List Contract → Type 0
   GoodAll earlier [] = Unit {0}
@@ -77,7 +77,7 @@ module _ (shift : Millionths) (keys : List Key) where
         → Fault earlier c TableReason.HalfMove
     limit :
         ContractIn c → Fresh earlier (c .id) → exponent-of keys c ≤ most-exponent → pos 1 ≤ℤ (its-terms c .halfmove .0)
-        → (InsideBounds (its-terms c) (market-of c) (its-corridor c) → ⊥) → Fault earlier c TableReason.Corridor
+        → (InsideBounds (its-terms c .factors) (market-of c) (its-corridor c) → ⊥) → Fault earlier c TableReason.Corridor
 
 -- ---- the answers, and the state that a table opens (METHOD 11.9, 11.10)
 pub data Opening : Type 0 where

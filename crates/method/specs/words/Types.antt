@@ -70,7 +70,6 @@ blank =
           record {
             id = 0;
             flags = 0;
-            negative = false;
             halfmove = steps (pos 0);
             factors = record { up = billionths 0; down = billionths 0 };
           };

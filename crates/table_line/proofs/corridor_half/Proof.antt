@@ -18,16 +18,16 @@ cast-share-2 : tie.Need-cast-share-2
 cast-share-2 c = search needs
 
 sub-rounded : tie.Need-sub-rounded
-sub-rounded c = apart-fits (c .before .before .before .before .before .before .before .args .width) (c .before .before .before .before .before .before .before .args .t) (c .before .before .before .before .before .before .before .args .m) (c .before .before .before .before .before .before .before .pre) (c .before .before .before .before .before .before .bound .result .0) (c .before .before .before .before .before .bound2 .result .0) (c .before .before .before .before .before .before .bound .ensures) (c .before .before .before .before .before .bound2 .ensures)
+sub-rounded c = apart-fits (c .before .before .before .before .before .before .before .args .width) (c .before .before .before .before .before .before .before .args .f) (c .before .before .before .before .before .before .before .args .m) (c .before .before .before .before .before .before .before .pre) (c .before .before .before .before .before .before .bound .result .0) (c .before .before .before .before .before .bound2 .result .0) (c .before .before .before .before .before .before .bound .ensures) (c .before .before .before .before .before .bound2 .ensures)
 
 mul-rounded : tie.Need-mul-rounded
-mul-rounded c = share-times-fits (c .before .before .before .before .before .before .before .args .width) (c .before .before .before .before .before .before .before .args .t) (c .before .before .before .before .before .before .before .args .m) (c .before .before .before .before .before .before .before .pre) (c .before .before .before .before .before .before .bound .result .0) (c .before .before .before .before .before .bound2 .result .0) (c .before .before .before .before .before .before .bound .ensures) (c .before .before .before .before .before .bound2 .ensures)
+mul-rounded c = share-times-fits (c .before .before .before .before .before .before .before .args .width) (c .before .before .before .before .before .before .before .args .f) (c .before .before .before .before .before .before .before .args .m) (c .before .before .before .before .before .before .before .pre) (c .before .before .before .before .before .before .bound .result .0) (c .before .before .before .before .before .bound2 .result .0) (c .before .before .before .before .before .before .bound .ensures) (c .before .before .before .before .before .bound2 .ensures)
 
 rounded-requires : tie.Need-rounded-requires
 rounded-requires c κs = search needs
 
 returns : tie.Need-returns
-returns c = c .rounded .ensures ∙ half-is (c .before .before .before .before .before .before .before .before .args .width) (c .before .before .before .before .before .before .before .before .args .t) (c .before .before .before .before .before .before .before .before .args .m) (c .before .before .before .before .before .before .before .before .pre) (c .before .before .before .before .before .before .before .bound .result .0) (c .before .before .before .before .before .before .bound2 .result .0) (c .before .before .before .before .before .before .before .bound .ensures) (c .before .before .before .before .before .before .bound2 .ensures)
+returns c = c .rounded .ensures ∙ half-is (c .before .before .before .before .before .before .before .before .args .width) (c .before .before .before .before .before .before .before .before .args .f) (c .before .before .before .before .before .before .before .before .args .m) (c .before .before .before .before .before .before .before .before .pre) (c .before .before .before .before .before .before .before .bound .result .0) (c .before .before .before .before .before .before .bound2 .result .0) (c .before .before .before .before .before .before .before .bound .ensures) (c .before .before .before .before .before .before .bound2 .ensures)
 
 pub corridor-half-spec : {M : Type 1} → statement M
 corridor-half-spec =

@@ -1,11 +1,6 @@
 -- `table_line::terms` meets its contract. Assumes nothing.
 use borrow.Author.Needs.{needs}
 use mathlib.Core.Path.{ap, _∙_}
-use lib.Dec.{lit<}
-use lib.IntN.{pos}
-use lib.Signed.{ltZ}
-use mir.Facts.{toZ-ofZ}
-use Rattle.numbers.proofs.Ranges.{fits}
 use Rattle.method.specs.words.Opening.{half-move, terms-of}
 use Rattle.method.proofs.Opening.{half-width-in}
 use Rattle.table_line.specs.Names.{Steps}
@@ -20,7 +15,7 @@ half-width-requires c κs = search needs
 
 half-move-requires : tie.Need-half-move-requires
 half-move-requires c κs =
-    let s = c .before .before .before .before .before in
+    let s = c .before .before .before in
     (s .pre .1 .0, rw (c .half-width .ensures) (half-width-in (s .args .c) _ (s .pre .0) (search needs)))
 
 factors-requires : tie.Need-factors-requires
@@ -29,11 +24,10 @@ factors-requires c κs = search needs
 returns : tie.Need-returns
 unfolding terms-of
 returns c =
-    let s = c .before .before .before .before .before .before .before in
+    let s = c .before .before .before .before .before in
     λ i. record {
       id = s .args .c .id;
-      flags = c .before .before .before .before .before .rebuilt .ensures i;
-      negative = ltZ (toZ-ofZ (fits (s .pre .0 .price) (lit< tt)) i) (pos 0);
+      flags = c .before .before .before .rebuilt .ensures i;
       halfmove = (c .before .half-move .ensures ∙ ap (λ (w : Steps). half-move (s .args .shift) w) (c .before .before .half-width .ensures)) i;
       factors = c .factors .ensures i;
     }
