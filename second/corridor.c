@@ -135,13 +135,16 @@ static Steps half_width_at(Steps normal, Millionths rate)
     return (Steps){ceiling_division(normal.steps * rate.millionths, MILLION)};
 }
 
-/* METHOD 8, of the centre and the first half-width that the line has now. */
+/* METHOD 8, of the centre and the first half-width that the line has now. The sign of each market bound, and nothing
+   else, chooses its factor. */
 static void set_interest_bounds(Line *line)
 {
     int64_t upper_market = line->centre.steps + line->half_width[0].steps;
     int64_t lower_market = line->centre.steps - line->half_width[0].steps;
-    line->interest.upper.steps = ceiling_division(upper_market * line->upper_factor.billionths, BILLION);
-    line->interest.lower.steps = floor_division(lower_market * line->lower_factor.billionths, BILLION);
+    Billionths upper_factor = upper_market < 0 ? line->down_factor : line->up_factor;
+    Billionths lower_factor = lower_market < 0 ? line->up_factor : line->down_factor;
+    line->interest.upper.steps = ceiling_division(upper_market * upper_factor.billionths, BILLION);
+    line->interest.lower.steps = floor_division(lower_market * lower_factor.billionths, BILLION);
 }
 
 /* METHOD 9.4 and 16.3. What was lifted once is lifted again after each later fall, so it never leaves the floor. */
@@ -244,15 +247,6 @@ static bool contract_in_range(const Contract *contract)
         && (contract->flags & ~(uint32_t)FLAGS_OF_CONTRACT) == 0;
 }
 
-static void set_factors(Line *line, Steps settlement, Billionths exponent)
-{
-    Billionths up = corridor_up_factor(exponent);
-    Billionths down = corridor_down_factor(up);
-    bool negative = settlement.steps < 0;
-    line->upper_factor = negative ? down : up;
-    line->lower_factor = negative ? up : down;
-}
-
 /* Sets the limits; says whether both stay within the interest bounds. The floor comes only after that. */
 static bool set_opening_limits(Line *line, Millionths width_share)
 {
@@ -273,13 +267,15 @@ static Refusal open_line(Line *line, const Contract *contract, const Keys *keys,
     if (exponent.billionths > EXPONENT_CAP) {
         return REFUSED_EXPONENT;
     }
+    Billionths up_factor = corridor_up_factor(exponent);
     *line = (Line){
         .id = contract->id,
         .permits_negative = (contract->flags & FLAG_PERMITS_NEGATIVE) != 0,
         .watched = (contract->flags & FLAG_WATCHED) != 0,
         .centre = contract->settlement,
+        .up_factor = up_factor,
+        .down_factor = corridor_down_factor(up_factor),
     };
-    set_factors(line, contract->settlement, exponent);
     Steps normal = normal_price(contract->spot, contract->least_price);
     for (int level = 0; level < LEVELS; level++) {
         line->half_width[level] = half_width_at(normal, contract->rate[level]);

@@ -77,9 +77,9 @@ typedef struct {
     Steps centre;
     Steps half_width[LEVELS];
     Steps half_move;
-    /* The sign of the settlement price chooses the two factors once, for the whole session. */
-    Billionths upper_factor;
-    Billionths lower_factor;
+    /* Both are fixed for the session. Which of them a market bound takes is not: a shift can carry it across zero. */
+    Billionths up_factor;
+    Billionths down_factor;
 } Line;
 
 typedef struct {

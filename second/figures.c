@@ -326,8 +326,8 @@ static void figures_of_bounds(void)
 
     draft = sample_with_growth(-10, 100, 500000, FLAG_WATCHED | FLAG_PERMITS_NEGATIVE);
     course = started(&draft);
-    check_interest("bounds at -10", &course, 7, -122, 82);
-    check_limits("limits at -10", &course, 7, -61, 41);
+    check_interest("bounds at -10", &course, 7, -122, 100);
+    check_limits("limits at -10", &course, 7, -65, 45);
 }
 
 static void figures_of_normal_price(void)
@@ -421,16 +421,20 @@ static void figures_of_shifts(void)
 }
 
 /* METHOD 8.1: with growth a bound follows its market bound times the factor, so it does not move by twice the
-   half-move. */
+   half-move. The market bounds 90 and -110 become 140 and -160, so that neither takes another factor than at opening,
+   while the centre goes to 15 and back to -10. */
 static void figures_of_shifts_with_growth(void)
 {
     TableDraft draft = sample_with_growth(-10, 100, 500000, FLAG_WATCHED | FLAG_PERMITS_NEGATIVE);
     Course course = started(&draft);
-    check_events("up and down below zero", &course, "61 U 7\n122 D 7\n",
-                 EVENTS(draft_bid(1, 7, 41), draft_ask(62, 7, -61), draft_tick(122)));
-    check_number("the sign of the settlement holds", course.session.lines[0].centre.steps, -10);
-    check_interest("bounds below zero", &course, 7, -177, 127);
-    check_limits("limits below zero", &course, 7, -116, 86);
+    check_events("up around zero", &course, "61 U 7\n", EVENTS(draft_bid(1, 7, 41), draft_tick(61)));
+    check_number("a positive centre", course.session.lines[0].centre.steps, 15);
+    check_interest("bounds after up", &course, 7, -122, 155);
+    check_limits("limits after up", &course, 7, -65, 100);
+    check_events("up and down around zero", &course, "122 D 7\n", EVENTS(draft_ask(62, 7, -61), draft_tick(122)));
+    check_number("a negative centre", course.session.lines[0].centre.steps, -10);
+    check_interest("bounds after up and down", &course, 7, -177, 155);
+    check_limits("limits after up and down", &course, 7, -120, 100);
 }
 
 static void figures_of_refused_events(void)

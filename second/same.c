@@ -39,8 +39,8 @@ static bool same_terms(const Line *one, const Line *other)
 {
     return one->id == other->id && one->permits_negative == other->permits_negative && one->watched == other->watched
         && one->half_move.steps == other->half_move.steps
-        && one->upper_factor.billionths == other->upper_factor.billionths
-        && one->lower_factor.billionths == other->lower_factor.billionths;
+        && one->up_factor.billionths == other->up_factor.billionths
+        && one->down_factor.billionths == other->down_factor.billionths;
 }
 
 static bool same_head(const Session *one, const Session *other)

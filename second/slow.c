@@ -14,6 +14,23 @@ void slow_open(SlowSession *slow, const Session *opening)
     }
 }
 
+/* The interest bounds of two market bounds. No sign is looked at: the factor that a sign chooses is the one that leads
+   farther out, since the up factor is never under one and the down factor never above it. */
+static Bounds farther_out(const Line *line, int64_t lower_market, int64_t upper_market)
+{
+    static const int64_t billion = 1000000000;
+    int64_t up = line->up_factor.billionths;
+    int64_t down = line->down_factor.billionths;
+    int64_t lower_by_up = floor_division(lower_market * up, billion);
+    int64_t lower_by_down = floor_division(lower_market * down, billion);
+    int64_t upper_by_up = ceiling_division(upper_market * up, billion);
+    int64_t upper_by_down = ceiling_division(upper_market * down, billion);
+    return (Bounds){
+        .lower = {lower_by_up < lower_by_down ? lower_by_up : lower_by_down},
+        .upper = {upper_by_up > upper_by_down ? upper_by_up : upper_by_down},
+    };
+}
+
 Line slow_line(const SlowSession *slow, uint32_t index)
 {
     Line line = slow->opening.lines[index];
@@ -22,8 +39,7 @@ Line slow_line(const SlowSession *slow, uint32_t index)
     int64_t downs = slow->downs;
     int64_t upper_market = line.centre.steps + line.half_width[0].steps + 2 * ups * line.half_move.steps;
     int64_t lower_market = line.centre.steps - line.half_width[0].steps - 2 * downs * line.half_move.steps;
-    line.interest.upper.steps = ceiling_division(upper_market * line.upper_factor.billionths, 1000000000);
-    line.interest.lower.steps = floor_division(lower_market * line.lower_factor.billionths, 1000000000);
+    line.interest = farther_out(&line, lower_market, upper_market);
     line.centre.steps += (ups - downs) * line.half_move.steps;
     for (int level = 0; level < LEVELS; level++) {
         line.half_width[level].steps += (ups + downs) * line.half_move.steps;
