@@ -51,12 +51,17 @@ size_t draft_write_event(const EventDraft *event, uint8_t *bytes)
     return write_fields(event->fields, EVENT_FIELDS, bytes);
 }
 
+uint32_t draft_read_field(const uint8_t *bytes, size_t number)
+{
+    const uint8_t *start = bytes + 4 * number;
+    return (uint32_t)start[0] | (uint32_t)start[1] << 8 | (uint32_t)start[2] << 16 | (uint32_t)start[3] << 24;
+}
+
 EventDraft draft_read_event(const uint8_t *bytes)
 {
     EventDraft event;
     for (size_t i = 0; i < EVENT_FIELDS; i++) {
-        event.fields[i] = (uint32_t)bytes[4 * i] | (uint32_t)bytes[4 * i + 1] << 8 | (uint32_t)bytes[4 * i + 2] << 16
-            | (uint32_t)bytes[4 * i + 3] << 24;
+        event.fields[i] = draft_read_field(bytes, i);
     }
     return event;
 }

@@ -30,6 +30,7 @@ Steps draft_price(uint32_t field);
 
 size_t draft_write_table(const TableDraft *draft, uint8_t *bytes);
 size_t draft_write_event(const EventDraft *event, uint8_t *bytes);
+uint32_t draft_read_field(const uint8_t *bytes, size_t number);
 EventDraft draft_read_event(const uint8_t *bytes);
 
 EventDraft draft_tick(uint32_t time);

@@ -143,16 +143,21 @@ static void make_width_and_days(Random *random, const TableDraft *draft, uint32_
     }
 }
 
-/* How the engine takes the contract alone, under the header and the keys of the draft. */
-static Refusal refusal_of_contract(const TableDraft *draft, uint32_t index)
+/* How the engine takes the contract alone, under the header and the keys of the draft, and its session then. */
+static Refusal open_contract(const TableDraft *draft, uint32_t index, Session *session)
 {
     TableDraft alone = *draft;
     uint8_t bytes[LONGEST_TABLE];
-    Session session;
     memcpy(alone.contracts[0], draft->contracts[index], sizeof alone.contracts[0]);
     draft_counts(&alone, draft->key_count, 1);
-    TableAnswer answer = corridor_open(bytes, draft_write_table(&alone, bytes), &session);
+    TableAnswer answer = corridor_open(bytes, draft_write_table(&alone, bytes), session);
     return answer.kind == REFUSED ? answer.reason : NOT_REFUSED;
+}
+
+static Refusal refusal_of_contract(const TableDraft *draft, uint32_t index)
+{
+    Session session;
+    return open_contract(draft, index, &session);
 }
 
 static void widen(uint32_t *contract)
@@ -179,6 +184,40 @@ static void mend_contract(TableDraft *draft, uint32_t index)
         default: return;
         }
     }
+}
+
+/* How far the market bound nearer to zero lies from it: at zero or a step beside it, as far as some shifts carry it, or
+   anywhere on their way. A shift moves a market bound by twice the half-move. */
+static int64_t make_inner_bound(Random *random, Steps half_move)
+{
+    int64_t way = 2 * half_move.steps * between(random, 1, 4);
+    switch (between(random, 0, 2)) {
+    case 0: return between(random, -1, 1);
+    case 1: return way + between(random, -1, 1);
+    default: return between(random, 0, way);
+    }
+}
+
+/* Gives a contract another price, so near to zero that its market bounds differ in sign, or that shifts may bring it
+   about. Spot and least price stay, and with them the half-width. */
+static void bring_near_zero(Random *random, TableDraft *draft, uint32_t index)
+{
+    uint32_t *contract = draft->contracts[index];
+    Session session;
+    mend_contract(draft, index);
+    open_contract(draft, index, &session);
+    int64_t half_width = session.lines[0].half_width[0].steps;
+    int64_t price = chance(random, 15) ? 0 : between(random, -half_width, half_width);
+    if (chance(random, 60)) {
+        price = half_width + make_inner_bound(random, session.lines[0].half_move);
+        price = chance(random, 50) ? price : -price;
+    } else if (chance(random, 50)) {
+        /* So wide a corridor that whether it is refused with 9 may hang on the factors. */
+        contract[CONTRACT_WIDTH_SHARE] = count_between(random, 700000, 1000000);
+    }
+    price = clamp(price, -MOST_TABLE_PRICE, MOST_TABLE_PRICE);
+    contract[CONTRACT_SETTLEMENT] = (uint32_t)price;
+    contract[CONTRACT_FLAGS] |= price < 1 || chance(random, 30) ? FLAG_PERMITS_NEGATIVE : 0u;
 }
 
 static bool id_used(const TableDraft *draft, uint32_t lines, uint32_t id)
@@ -239,7 +278,9 @@ static void make_greatest(TableDraft *draft)
 
 static TableDraft make_table(Random *random)
 {
+    static const int64_t near_zero_percents[] = {0, 30, 30, 100};
     TableDraft draft = {0};
+    int64_t near_zero_percent = near_zero_percents[between(random, 0, 3)];
     uint32_t key_count = count_between(random, 1, chance(random, 85) ? 4 : MOST_KEYS);
     uint32_t contract_count = make_contract_count(random);
     draft_counts(&draft, key_count, contract_count);
@@ -251,9 +292,12 @@ static TableDraft make_table(Random *random)
         make_prices(random, draft.contracts[i]);
         make_rates(random, draft.contracts[i]);
         make_width_and_days(random, &draft, draft.contracts[i]);
+        if (chance(random, near_zero_percent)) {
+            bring_near_zero(random, &draft, i);
+        }
         mend_contract(&draft, i);
     }
-    if (chance(random, 5)) {
+    if (chance(random, 8)) {
         make_greatest(&draft);
     }
     return draft;

@@ -8,6 +8,9 @@
 #include <inttypes.h>
 #include <stdio.h>
 
+static const int64_t MILLION = 1000000;
+static const int64_t BILLION = 1000000000;
+
 static const char *const NAMES[TALLY_COUNTS] = {
     NULL, "refusal 1", "refusal 2", "refusal 3", "refusal 4", "refusal 5", "refusal 6", "refusal 7", "refusal 8",
     "refusal 9", "refusal 10", "refusal 11", "refusal 12", "refusal 13", "refusal 14",
@@ -32,6 +35,16 @@ static const char *const NAMES[TALLY_COUNTS] = {
     [TALLY_ZERO_INSIDE] = "lines ending around zero",
     [TALLY_BEYOND_32_BITS] = "lines ending beyond 32 bits",
     [TALLY_CUT_EVENT] = "last events cut short",
+    [TALLY_UPPER_MARKET_NEGATIVE] = "upper market bounds below zero",
+    [TALLY_LOWER_MARKET_NOT_NEGATIVE] = "lower market bounds not below zero",
+    [TALLY_MARKET_AROUND_ZERO] = "market bounds around zero",
+    [TALLY_MARKET_AT_ZERO] = "market bounds at zero",
+    [TALLY_MARKET_BESIDE_ZERO] = "market bounds a step from zero",
+    [TALLY_ACROSS_ZERO_UP] = "upper market bounds across zero",
+    [TALLY_ACROSS_ZERO_DOWN] = "lower market bounds across zero",
+    [TALLY_MARKET_BELOW_FLOOR] = "floored, market bound below zero",
+    [TALLY_OTHER_BY_PRICE] = "bounds other by the price's sign",
+    [TALLY_REFUSED_BY_PRICE] = "lines refused by the price's sign",
     [TALLY_TICKS_ADDED] = "ticks added",
     [TALLY_QUOTES_REPEATED] = "quotes repeated",
     [TALLY_HELD_QUOTES_REPEATED] = "quotes repeated under a hold",
@@ -127,6 +140,77 @@ static void count_end(Tally *one, const Session *session)
     one->times[TALLY_ALL_SHIFTS_USED] += session->shifts_made > 0 && session->shifts_made == session->most_shifts;
 }
 
+/* ---- Near zero ---- */
+
+static Steps upper_market(const Line *line)
+{
+    return (Steps){line->centre.steps + line->half_width[0].steps};
+}
+
+static Steps lower_market(const Line *line)
+{
+    return (Steps){line->centre.steps - line->half_width[0].steps};
+}
+
+static bool has_market_bound(const Line *line, Steps price)
+{
+    return upper_market(line).steps == price.steps || lower_market(line).steps == price.steps;
+}
+
+/* Whether a market bound was there at opening, or is there at the end. */
+static bool had_market_bound(const Line *opened, const Line *line, Steps price)
+{
+    return has_market_bound(opened, price) || has_market_bound(line, price);
+}
+
+/* The interest bounds by the rule that the method had before: the sign of the price chooses the factors of both. */
+static Bounds bounds_by_price(const Line *line, Steps price)
+{
+    Billionths upper_factor = price.steps < 0 ? line->down_factor : line->up_factor;
+    Billionths lower_factor = price.steps < 0 ? line->up_factor : line->down_factor;
+    return (Bounds){
+        .lower = {floor_division(lower_market(line).steps * lower_factor.billionths, BILLION)},
+        .upper = {ceiling_division(upper_market(line).steps * upper_factor.billionths, BILLION)},
+    };
+}
+
+/* Whether a line that opened would by that rule have been refused with 9. */
+static bool refused_by_price(const Line *opened, int64_t width_share)
+{
+    Bounds bounds = bounds_by_price(opened, opened->centre);
+    int64_t half = floor_division(width_share * (bounds.upper.steps - bounds.lower.steps), 2 * MILLION);
+    return opened->centre.steps + half > bounds.upper.steps || opened->centre.steps - half < bounds.lower.steps;
+}
+
+/* Where the bounds at the end are other than by that rule, so is the whole answer: with the same shifts the closing
+   line shows it, and otherwise the shift lines do. */
+static bool other_by_price(const Line *line, Steps price)
+{
+    Bounds bounds = bounds_by_price(line, price);
+    return bounds.lower.steps != line->interest.lower.steps || bounds.upper.steps != line->interest.upper.steps;
+}
+
+/* One line as it was opened and as it stands at the end, and its contract in the table. */
+static void count_near_zero(Tally *one, const Line *opened, const Line *line, const uint8_t *contract)
+{
+    if (opened->up_factor.billionths == opened->down_factor.billionths) {
+        return;
+    }
+    int64_t upper = upper_market(opened).steps;
+    int64_t lower = lower_market(opened).steps;
+    one->times[TALLY_UPPER_MARKET_NEGATIVE] += upper < 0;
+    one->times[TALLY_LOWER_MARKET_NOT_NEGATIVE] += lower >= 0;
+    one->times[TALLY_MARKET_AROUND_ZERO] += lower < 0 && upper > 0;
+    one->times[TALLY_MARKET_AT_ZERO] += had_market_bound(opened, line, (Steps){0});
+    one->times[TALLY_MARKET_BESIDE_ZERO]
+        += had_market_bound(opened, line, (Steps){-1}) || had_market_bound(opened, line, (Steps){1});
+    one->times[TALLY_ACROSS_ZERO_UP] += upper < 0 && upper_market(line).steps > 0;
+    one->times[TALLY_ACROSS_ZERO_DOWN] += lower > 0 && lower_market(line).steps < 0;
+    one->times[TALLY_MARKET_BELOW_FLOOR] += line->lower_frozen && lower_market(line).steps < 0;
+    one->times[TALLY_OTHER_BY_PRICE] += other_by_price(line, opened->centre);
+    one->times[TALLY_REFUSED_BY_PRICE] += refused_by_price(opened, draft_read_field(contract, CONTRACT_WIDTH_SHARE));
+}
+
 Tally tally_input(const Input *input)
 {
     Tally one = {{0}};
@@ -136,6 +220,7 @@ Tally tally_input(const Input *input)
         one.times[answer.reason]++;
         return one;
     }
+    Session opened = session;
     uint64_t frozen = frozen_lines(&session);
     one.times[TALLY_OPENED]++;
     one.times[TALLY_NO_SHIFTS_ALLOWED] += session.most_shifts == 0;
@@ -145,6 +230,11 @@ Tally tally_input(const Input *input)
     }
     one.times[TALLY_FROZEN_IN_SHIFT] += frozen_lines(&session) - frozen;
     count_end(&one, &session);
+    /* The contracts are the last bytes of a table that opens. */
+    const uint8_t *contracts = input->table + input->table_length - session.line_count * CONTRACT_BYTES;
+    for (uint32_t i = 0; i < session.line_count; i++) {
+        count_near_zero(&one, &opened.lines[i], &session.lines[i], contracts + i * CONTRACT_BYTES);
+    }
     return one;
 }
 

@@ -31,6 +31,18 @@ typedef enum {
     TALLY_ZERO_INSIDE,
     TALLY_BEYOND_32_BITS,
     TALLY_CUT_EVENT,
+    /* From here on what contracts near zero bring about. Lines whose two factors are alike do not count. */
+    TALLY_FIRST_NEAR_ZERO,
+    TALLY_UPPER_MARKET_NEGATIVE = TALLY_FIRST_NEAR_ZERO,
+    TALLY_LOWER_MARKET_NOT_NEGATIVE,
+    TALLY_MARKET_AROUND_ZERO,
+    TALLY_MARKET_AT_ZERO,
+    TALLY_MARKET_BESIDE_ZERO,
+    TALLY_ACROSS_ZERO_UP,
+    TALLY_ACROSS_ZERO_DOWN,
+    TALLY_MARKET_BELOW_FLOOR,
+    TALLY_OTHER_BY_PRICE,
+    TALLY_REFUSED_BY_PRICE,
     /* From here on what free events bring about where they are added to the input (thickened.h). */
     TALLY_FIRST_ADDED,
     TALLY_TICKS_ADDED = TALLY_FIRST_ADDED,
