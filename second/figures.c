@@ -805,6 +805,17 @@ static void readings_of_widths(void)
     check_events("A11 all shifts down", &course, every_minute(60, 16, "D 8").text,
                  EVENTS(draft_ask(0, 8, -2000000000), draft_tick(1000)));
     check_shown("A11 lowest bound", closing_of(&course, 7).numbers[2], -2967698281);
+
+    /* From 0 sixteen shifts carry a market bound 1,600,000,000 away: times 1.648721267 that is 2,637,954,027.2. */
+    course = started(&draft);
+    check_events("A11 all shifts up, below zero", &course, every_minute(60, 16, "U 8").text,
+                 EVENTS(draft_bid(0, 8, 2000000000), draft_tick(1000)));
+    check_shown("A11 widest bound of the lowest price", closing_of(&course, 7).numbers[3], 2637954028);
+    draft.contracts[0][CONTRACT_SETTLEMENT] = 100000000;
+    course = started(&draft);
+    check_events("A11 all shifts down, above zero", &course, every_minute(60, 16, "D 8").text,
+                 EVENTS(draft_ask(0, 8, -2000000000), draft_tick(1000)));
+    check_shown("A11 lowest bound of the highest price", closing_of(&course, 7).numbers[2], -2637954028);
 }
 
 static void readings_of_zero_width(void)
@@ -987,18 +998,6 @@ static void figures_of_levels(void)
     }
 }
 
-/* The sample with other keys, two at most, and other days left. */
-static TableDraft sample_with_keys(uint32_t days, uint32_t rate, uint32_t second_days, uint32_t second_rate,
-                                   uint32_t days_left)
-{
-    TableDraft draft = sample();
-    const uint32_t keys[][KEY_FIELDS] = {{days, rate}, {second_days, second_rate}};
-    draft_counts(&draft, second_days == 0 ? 1 : 2, 1);
-    memcpy(draft.keys, keys, sizeof keys);
-    draft.contracts[0][CONTRACT_DAYS_LEFT] = days_left;
-    return draft;
-}
-
 /*
  * Half-width 100 at exponent 10^8, where the up factor is 1.105170916 and the down factor 0.904837419. The upper
  * market bound takes the up factor from 0 on and below 0 the down factor, the lower one the other of them, so that
@@ -1159,6 +1158,18 @@ static void figures_of_all_signs(void)
                   "70 U 8\n140 D 8\n6 -1211 -809 -1327 -723\n7 -318 9 -387 56\n8 -166 166 -222 222\n"
                   "9 -9 318 -56 387\n10 809 1211 723 1327\n",
                   EVENTS(draft_bid(10, 8, 55), draft_tick(70), draft_ask(80, 8, -55), draft_tick(140)));
+}
+
+/* The sample with other keys, two at most, and other days left. */
+static TableDraft sample_with_keys(uint32_t days, uint32_t rate, uint32_t second_days, uint32_t second_rate,
+                                   uint32_t days_left)
+{
+    TableDraft draft = sample();
+    const uint32_t keys[][KEY_FIELDS] = {{days, rate}, {second_days, second_rate}};
+    draft_counts(&draft, second_days == 0 ? 1 : 2, 1);
+    memcpy(draft.keys, keys, sizeof keys);
+    draft.contracts[0][CONTRACT_DAYS_LEFT] = days_left;
+    return draft;
 }
 
 /* For every number of days, the highest rate whose exponent is not above the cap, and the rate after that one.
