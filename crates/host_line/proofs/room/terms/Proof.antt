@@ -25,7 +25,7 @@ factors-requires c κs = search needs
 returns-4 : tie.Need-returns-4
 returns-4 c =
     decides-same (c .factors .result)
-    (λ f. record { id = omega arith; flags = omega arith; halfmove = between-true _ _ _ (held (c .before .before .between .ensures) (c .before .if3 .left)); factors = f })
+    (λ f. record { id = omega arith; flags = omega arith; halfmove = between-true _ _ _ (held (c .before .before .before .between .ensures) (c .before .before .if3 .left)); factors = f })
     (λ q. q .factors) (c .factors .ensures)
 
 pub terms-spec : {M : Type 1} → statement M
