@@ -3,12 +3,10 @@ use mathlib.Core.Path.{_≡_, refl}
 use Prim.Native.Nat.{ℕ, _≤_, _<_, _^_}
 use native.Mathlib.Omega.{arith}
 use lib.Dec.{lit<}
-use lib.IntN.{ℤ, pos, negsuc, _+ℤ_, _-ℤ_, _*ℤ_}
-use lib.Signed.{_≤ℤ_, _<ℤ_}
+use lib.IntN.{ℤ, pos, _+ℤ_, _-ℤ_, _*ℤ_}
 use mir.Syntax.{w64}
 use mir.Val.{SFits}
 use Rattle.numbers.specs.Ranges.{Within}
-use Rattle.numbers.proofs.Halves.{zarith}
 use Rattle.numbers.proofs.Ranges.{fits, within-add, within-sub, within-mul, within-pos}
 use Rattle.numbers.proofs.Machine.{cast-back}
 use Rattle.method.specs.words.Bounds.{market-bound, factor, interest, bound}
@@ -38,22 +36,6 @@ pub interest-is : (side : Side) (f : ℕ) (z : ℤ) → interest side f z ≡ ro
 unfolding interest
 interest-is Up f z = refl
 interest-is Down f z = refl
-
--- ---- the factor, by the test of the bound's sign
-not-below : (n : ℕ) → pos n <ℤ pos 0 → ⊥
-not-below n h = omega zarith
-
-pub factor-below : (side : Side) (f : Factors) (z : ℤ) → z <ℤ pos 0 → factor side f (negsuc 0) ≡ factor side f z
-unfolding factor
-factor-below side f (pos n) h = absurd (not-below n h)
-factor-below Up f (negsuc n) h = refl
-factor-below Down f (negsuc n) h = refl
-
-pub factor-above : (side : Side) (f : Factors) (z : ℤ) → pos 0 ≤ℤ z → factor side f (pos 0) ≡ factor side f z
-unfolding factor
-factor-above side f (negsuc n) h = absurd (h .le)
-factor-above Up f (pos n) h = refl
-factor-above Down f (pos n) h = refl
 
 -- ---- what a bound's parts are asked
 module _ {f : Factors} {m : Market} (d : Drawn f m) where

@@ -1,10 +1,10 @@
 -- Laws of the interest bounds: they go with the market bound, over zero too; a shift moves only its own side's, and never inward. Assumes
 -- nothing.
-use mathlib.Core.Path.{_≡_, ap, subst}
-use Prim.Native.Nat.{ℕ, _≤_}
+use mathlib.Core.Path.{_≡_, refl, ap, subst}
+use Prim.Native.Nat.{ℕ}
 use lib.Dec.{lit<}
 use lib.IntN.{ℤ, pos, negsuc, _+ℤ_, _-ℤ_, _*ℤ_}
-use lib.Signed.{_≤ℤ_}
+use lib.Signed.{_≤ℤ_, _<ℤ_}
 use Rattle.numbers.specs.Rounding.{floor, ceiling}
 use Rattle.numbers.proofs.Halves.{zarith, add-is, sub-is, mul-is}
 use Rattle.numbers.proofs.Linear.{≤ℤ-trans, mul-mono, mul-grows, mul-sinks}
@@ -13,6 +13,24 @@ use Rattle.method.specs.words.Types.{Side, Up, Down, Steps, Factors, Mar
 use Rattle.method.specs.words.Bounds.{interest, factor, outward, bound}
 use Rattle.method.specs.computed.Shift.{moved}
 use Rattle.method.specs.computed.Rooms.{FactorsIn}
+
+-- ---- Which factor hangs on a sign alone. So a bound on P's side of zero takes the one that the sign of P would choose.
+not-below : (n : ℕ) → pos n <ℤ pos 0 → ⊥
+not-below n h = omega zarith
+
+pub factor-below : (side : Side) (f : Factors) (y z : ℤ) → y <ℤ pos 0 → z <ℤ pos 0 → factor side f y ≡ factor side f z
+unfolding factor
+factor-below side f (pos m) z h g = absurd (not-below m h)
+factor-below side f (negsuc m) (pos n) h g = absurd (not-below n g)
+factor-below Up f (negsuc m) (negsuc n) h g = refl
+factor-below Down f (negsuc m) (negsuc n) h g = refl
+
+pub factor-above : (side : Side) (f : Factors) (y z : ℤ) → pos 0 ≤ℤ y → pos 0 ≤ℤ z → factor side f y ≡ factor side f z
+unfolding factor
+factor-above side f (negsuc m) z h g = absurd (h .le)
+factor-above side f (pos m) (negsuc n) h g = absurd (g .le)
+factor-above Up f (pos m) (pos n) h g = refl
+factor-above Down f (pos m) (pos n) h g = refl
 
 -- ---- by one factor
 interest-mono : (side : Side) (by : ℕ) {y z : ℤ} → y ≤ℤ z → interest side by y ≤ℤ interest side by z
