@@ -9,7 +9,7 @@ use mir.Val.{SFits}
 use Rattle.numbers.specs.Ranges.{Within}
 use Rattle.numbers.proofs.Ranges.{fits, within-add, within-sub, within-mul, within-pos}
 use Rattle.numbers.proofs.Machine.{cast-back}
-use Rattle.method.specs.words.Bounds.{market-bound, factor, interest, bound}
+use Rattle.method.specs.words.Bounds.{market-bound, factor, interest, outward, bound}
 use Rattle.method.specs.computed.Rooms.{largest-reach, largest-factor, largest-market-bound, largest-bound}
 use Rattle.method.proofs.Rooms.{factor-in, outward-within}
 use Rattle.bounds.specs.Names.{Side, Up, Down, Factors, Market}
@@ -24,18 +24,18 @@ difference-fits v w = fits (within-sub v w) (lit< tt)
 
 pub ruleset sums = (sum-fits, difference-fits)
 
-pub factor-fits : {f : ℕ} → f ≤ largest-factor → f < 2 ^ 63
+pub factor-fits : {k : ℕ} → k ≤ largest-factor → k < 2 ^ 63
 factor-fits h = omega arith
 
-pub product-fits : {f : ℕ} {z : ℤ} → f ≤ largest-factor → Within largest-market-bound z → SFits w64 (z *ℤ pos f)
+pub product-fits : {k : ℕ} {z : ℤ} → k ≤ largest-factor → Within largest-market-bound z → SFits w64 (z *ℤ pos k)
 product-fits h w = fits (within-mul w (within-pos h)) (lit< tt)
 
 pub ruleset products = (factor-fits, product-fits, cast-back)
 
-pub interest-is : (side : Side) (f : ℕ) (z : ℤ) → interest side f z ≡ rounded side (z *ℤ pos f) 1_000_000_000
+pub interest-is : (side : Side) (k : ℕ) (z : ℤ) → interest side k z ≡ rounded side (z *ℤ pos k) 1_000_000_000
 unfolding interest
-interest-is Up f z = refl
-interest-is Down f z = refl
+interest-is Up k z = refl
+interest-is Down k z = refl
 
 -- ---- what a bound's parts are asked
 module _ {f : Factors} {m : Market} (d : Drawn f m) where
@@ -47,5 +47,5 @@ module _ {f : Factors} {m : Market} (d : Drawn f m) where
   drawn-bound Down = within-sub (d .centre) (d .half1)
 
   pub drawn-within : (side : Side) → Within largest-bound (bound side f m)
-  unfolding bound
+  unfolding bound outward
   drawn-within side = outward-within side (d .factors) (drawn-bound side)

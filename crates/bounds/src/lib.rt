@@ -26,7 +26,7 @@ pub fn market_bound(side: Side, centre: Steps, half: Steps) -> Steps
     }
 }
 
-// The factor that takes a market bound outward, by the bound's own sign: down where outward is toward zero, up where it is away from it.
+// The factor of a market bound, by its own sign: of the upper one up from 0 on and down below, of the lower one the other way round.
 fn factor(side: Side, f: Factors, z: Steps) -> Billionths
     ensures { λ r. ⌜ r .0 ≡ factor side f (z .0) ⌝ }
 {
@@ -47,11 +47,11 @@ fn factor(side: Side, f: Factors, z: Steps) -> Billionths
 }
 
 // A market bound by its factor, rounded outward.
-fn interest(side: Side, by: Billionths, z: Steps) -> Steps
-    requires { ⌜ (by .0 ≤ largest-factor) × Within largest-market-bound (z .0) ⌝ }
-    ensures { λ r. ⌜ r .0 ≡ interest side (by .0) (z .0) ⌝ }
+fn interest(side: Side, k: Billionths, z: Steps) -> Steps
+    requires { ⌜ (k .0 ≤ largest-factor) × Within largest-market-bound (z .0) ⌝ }
+    ensures { λ r. ⌜ r .0 ≡ interest side (k .0) (z .0) ⌝ }
 {
-    let product = z.0 * (by.0 as i64);
+    let product = z.0 * (k.0 as i64);
     rounding::rounded(side, product, 1000000000)
 }
 

@@ -12,7 +12,7 @@ use Rattle.numbers.proofs.Rounding.{floor-mono}
 use Rattle.numbers.proofs.Tests.{both, le-true}
 use Rattle.method.specs.words.Types.{Up, Down, Millionths, Factors, Terms, Market, Limits, steps}
 use Rattle.method.specs.words.Ranges.{whole, permits-negative}
-use Rattle.method.specs.words.Bounds.{bound}
+use Rattle.method.specs.words.Bounds.{outward, bound}
 use Rattle.method.specs.words.Opening.{corridor-half, corridor, floored}
 use Rattle.method.specs.computed.Opening.{inside-bounds}
 use Rattle.method.specs.computed.Rooms.{FactorsIn, LimitsIn}
@@ -25,11 +25,11 @@ module _ (f : Factors) (m : Market) (r : FactorsIn f) (h : pos 0 ≤ℤ (m .half
   c = m .centre .0
 
   centre-below-upper : c ≤ℤ bound Up f m
-  unfolding bound
+  unfolding bound outward
   centre-below-upper = ≤ℤ-trans (omega (zarith, add-is c (m .half1 .0))) (outside-up r (c +ℤ m .half1 .0))
 
   centre-above-lower : bound Down f m ≤ℤ c
-  unfolding bound
+  unfolding bound outward
   centre-above-lower = ≤ℤ-trans (outside-down r (c -ℤ m .half1 .0)) (omega (zarith, sub-is c (m .half1 .0)))
 
 -- ---- and between the limits

@@ -34,17 +34,17 @@ pub market-bound-in : (side : Side) {left : ℕ} {m : Market} → MarketRoom lef
 market-bound-in Up r = within-more (within-add (r .centre) (span-within (r .half1))) (omega arith)
 market-bound-in Down r = within-more (within-sub (r .centre) (span-within (r .half1))) (omega arith)
 
-interest-within : (side : Side) (f : ℕ) {z : ℤ} → f ≤ largest-factor → Within largest-market-bound z → Within largest-bound (interest side f z)
+interest-within : (side : Side) (k : ℕ) {z : ℤ} → k ≤ largest-factor → Within largest-market-bound z → Within largest-bound (interest side k z)
 unfolding interest
-interest-within Up f h w = ceiling-within largest-bound 1_000_000_000 (lit< tt) (within-mul w (within-pos h))
-interest-within Down f h w = floor-within largest-bound 1_000_000_000 (lit< tt) (within-mul w (within-pos h))
+interest-within Up k h w = ceiling-within largest-bound 1_000_000_000 (lit< tt) (within-mul w (within-pos h))
+interest-within Down k h w = floor-within largest-bound 1_000_000_000 (lit< tt) (within-mul w (within-pos h))
 
 pub outward-within : (side : Side) {f : Factors} {z : ℤ} → FactorsIn f → Within largest-market-bound z → Within largest-bound (outward side f z)
 unfolding outward
 outward-within side {f} {z} r w = interest-within side (factor side f z) (factor-in side z r) w
 
 pub bound-in : (side : Side) {left : ℕ} {f : Factors} {m : Market} → FactorsIn f → MarketRoom left m → Within largest-bound (bound side f m)
-unfolding bound
+unfolding bound outward
 bound-in side f r = outward-within side f (market-bound-in side r)
 
 module _ {left : ℕ} {l : Line} (r : Room left l) where

@@ -1,4 +1,4 @@
--- Figures that pin what no rule pins: the half-widths of all three levels, the exponent's cap from both sides, bounds near zero and over it, and
+-- Figures that pin what no rule pins: the half-widths of all three levels, the exponent's cap from both sides, bounds near zero and across it, and
 -- lines that do not press because they are not watched or are frozen. One table under one claim. Assumes nothing.
 use mathlib.Core.List.{List, [], _∷_, _++_, map}
 use mathlib.Core.Path.{_≡_, refl}
@@ -68,8 +68,8 @@ abbrev near-zero : ℤ → ℕ → Contract
 near-zero price width = contract price (pos 1_000) 100_000 width 3
 
 -- and as a whole input, with P as its word, and spot 0
-abbrev over-zero : ℕ → List ℕ → List ℤ
-over-zero price events =
+abbrev across-zero : ℕ → List ℕ → List ℤ
+across-zero price events =
     numbers-of
     (program
     (table 1_000 2 1 1
@@ -99,18 +99,26 @@ edges =
     ∷ figure (closed (pos 45_754_586) (pos 154_245_414) (pos 30_326_533) (pos 247_308_191)) (one 50_000 100_000_000 3_650 500_000 500_000 2 1 [])
     ∷ figure (closed (pos 683) (pos 1_317) (pos 545) (pos 1_814)) (one 249_658 1_000 731 100_000 500_000 2 1 [])
     ∷ figure (map pos (3 ∷ 7 ∷ 1 ∷ 0 ∷ 0 ∷ 0 ∷ [])) (one 106_043 1_000 1_721 100_000 500_000 2 1 [])
-    -- Each bound by its own sign. P -10 with the share 950,000: limits 95 and -115, inside their bounds 100 and -122. P 0: both bounds take the up
-    -- factor. A market bound of exactly 0 stays 0.
+    -- D2. Each bound by its own sign. P -10 with the share 950,000: limits 95 and -115, inside their bounds 100 and -122. P 0: both bounds take the
+    -- up factor. A market bound of exactly 0 stays 0, and one of -1 or 1 that is carried toward zero comes to 0.
     ∷ figure (pos 95 ∷ negsuc 114 ∷ []) (of-line both-limits (line 100_000 (near-zero (negsuc 9) 950_000)))
     ∷ figure (pos 111 ∷ negsuc 110 ∷ []) (of-line bounds (line 100_000 (near-zero (pos 0) 500_000)))
     ∷ figure (pos 0 ∷ negsuc 221 ∷ []) (of-line bounds (line 100_000 (near-zero (negsuc 99) 500_000)))
     ∷ figure (pos 222 ∷ pos 0 ∷ []) (of-line bounds (line 100_000 (near-zero (pos 100) 500_000)))
-    -- Shifts that carry a bound over zero, by the down factor before and by the up factor after: upward -36 to 12 and the limit with it from -83 to
-    -- -35; downward 36 to -12 and 83 to 35. In two shifts by way of 0: -45, 0, 56, the limit -92, -47, 9; and downward the same, turned round.
-    ∷ figure (shift 70 0 ++ closed (negsuc 196) (negsuc 34) (negsuc 265) (pos 12)) (over-zero (minus 140) (bid 10 7 (minus 83) (tick 1_000 [])))
-    ∷ figure (shift 70 1 ++ closed (pos 35) (pos 197) (negsuc 11) (pos 266)) (over-zero 140 (ask 10 7 83 (tick 1_000 [])))
-    ∷ figure (shift 70 0 ++ shift 130 0 ++ closed (negsuc 207) (pos 9) (negsuc 276) (pos 56)) (over-zero (minus 150) (bid 10 7 2_000 (tick 1_000 [])))
-    ∷ figure (shift 70 1 ++ shift 130 1 ++ closed (negsuc 8) (pos 208) (negsuc 55) (pos 277)) (over-zero 150 (ask 10 7 (minus 2_000) (tick 1_000 [])))
+    ∷ figure (pos 0 ∷ negsuc 222 ∷ []) (of-line bounds (line 100_000 (near-zero (negsuc 100) 500_000)))
+    ∷ figure (pos 223 ∷ pos 0 ∷ []) (of-line bounds (line 100_000 (near-zero (pos 101) 500_000)))
+    -- A shift that carries a bound across zero, by the down factor before it and by the up factor after: upward, and downward the same turned round.
+    ∷ figure (closed (negsuc 196) (negsuc 82) (negsuc 265) (negsuc 35)) (across-zero (minus 140) [])
+    ∷ figure (shift 70 0 ++ closed (negsuc 196) (negsuc 34) (negsuc 265) (pos 12)) (across-zero (minus 140) (bid 10 7 (minus 83) (tick 1_000 [])))
+    ∷ figure (closed (pos 83) (pos 197) (pos 36) (pos 266)) (across-zero 140 [])
+    ∷ figure (shift 70 1 ++ closed (pos 35) (pos 197) (negsuc 11) (pos 266)) (across-zero 140 (ask 10 7 83 (tick 1_000 [])))
+    -- Two shifts that do, by way of 0.
+    ∷ figure (closed (negsuc 207) (negsuc 91) (negsuc 276) (negsuc 44)) (across-zero (minus 150) [])
+    ∷ figure (shift 70 0 ++ closed (negsuc 207) (negsuc 46) (negsuc 276) (pos 0)) (across-zero (minus 150) (bid 10 7 0 (tick 70 [])))
+    ∷ figure (shift 70 0 ++ shift 130 0 ++ closed (negsuc 207) (pos 9) (negsuc 276) (pos 56)) (across-zero (minus 150) (bid 10 7 0 (tick 130 [])))
+    ∷ figure (closed (pos 92) (pos 208) (pos 45) (pos 277)) (across-zero 150 [])
+    ∷ figure (shift 70 1 ++ closed (pos 47) (pos 208) (pos 0) (pos 277)) (across-zero 150 (ask 10 7 0 (tick 70 [])))
+    ∷ figure (shift 70 1 ++ shift 130 1 ++ closed (negsuc 8) (pos 208) (negsuc 55) (pos 277)) (across-zero 150 (ask 10 7 0 (tick 130 [])))
     -- A bid on the upper limit, an ask on the lower: a watched line shifts at 70, one without watch never.
     ∷ figure (shift 70 0 ++ closed (pos 950) (pos 1_100) (pos 900) (pos 1_150)) (plain 2 (bid 10 7 1_050 (tick 69 (tick 1_000 []))))
     ∷ figure (closed (pos 950) (pos 1_050) (pos 900) (pos 1_100)) (plain 0 (bid 10 7 1_050 (tick 69 (tick 1_000 []))))

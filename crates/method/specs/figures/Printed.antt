@@ -32,9 +32,9 @@ pub every-kind :
     (Row.Shift (record { second = seconds 61; side = Down; id = 4_294_967_295 })
     ∷ Row.RefusedEvent EventReason.Malformed
     ∷ Row.RefusedTable TableReason.Corridor 2
-    ∷ Row.Closed (record { id = 3; lower = steps (negsuc 60); upper = steps (pos 41); lowerbound = steps (negsuc 121); upperbound = steps (pos 0) })
+    ∷ Row.Closed (record { id = 3; lower = steps (negsuc 64); upper = steps (pos 45); lowerbound = steps (negsuc 121); upperbound = steps (pos 0) })
     ∷ [])
-    ≡ ascii "61 D 4294967295\nR 12\nT 9 2\n3 -61 41 -122 0\n"
+    ≡ ascii "61 D 4294967295\nR 12\nT 9 2\n3 -65 45 -122 0\n"
 unfolding decimal-in line-text table-number event-number
 every-kind = refl
 

@@ -17,10 +17,10 @@ factor Up f (negsuc n) = f .down .0
 factor Down f (pos n) = f .down .0
 factor Down f (negsuc n) = f .up .0
 
--- a bound z times a factor, rounded outward (METHOD 8.5)
+-- a bound z times the factor k, rounded outward (METHOD 8.5)
 unfoldable pub interest : Side → ℕ → ℤ → ℤ
-interest Up by z = ceiling (z *ℤ pos by) 1_000_000_000
-interest Down by z = floor (z *ℤ pos by) 1_000_000_000
+interest Up k z = ceiling (z *ℤ pos k) 1_000_000_000
+interest Down k z = floor (z *ℤ pos k) 1_000_000_000
 
 -- a market bound z taken outward
 unfoldable pub outward : Side → Factors → ℤ → ℤ
