@@ -1,4 +1,7 @@
-// A line as a row of 21 numbers, so that it can lie in a host's memory: a type that holds an enum does not go to C.
+// A line as two rows of 16 numbers, so that it can lie in a host's memory: a type that holds an enum does not go to C. The first row has what
+// its bounds are drawn from, its terms and its market, which only a shift changes; the second what pressure is judged on, its limits, its
+// book and its holds, which a quote moves and which can be written alone. Numbers that neither row has a use for are 0: there is room for
+// what a later request adds to a line, at the same width.
 
 use numbers::Millionths;
 use numbers::Seconds;

@@ -1,8 +1,8 @@
-// What numbers say: a word, a price, a hold, and the line or the head that a row has. Any numbers say something.
+// What numbers say: a word, a price, a hold; what stands in a row; and the line that two rows have. Any numbers say something.
 
 ghost use mathlib.Core.Path.{_≡_};
 ghost use Rattle.method.specs.words.Types.{steps};
-ghost use Rattle.host_row.specs.Packed.{word-in, mark-in, signed-in, price-in, hold-in, line-in, head-in};
+ghost use Rattle.host_row.specs.Packed.{word-in, mark-in, signed-in, price-in, hold-in, terms-in, market-in, limits-in, book-in, holds-in, line-in, head-in};
 use crate::Head;
 use method::Book;
 use method::Factors;
@@ -18,7 +18,7 @@ use numbers::Millionths;
 use numbers::Seconds;
 use numbers::Steps;
 
-pub fn word(n: u64) -> u32
+fn word(n: u64) -> u32
     ensures { λ r. ⌜ r ≡ word-in n ⌝ }
 {
     (n % 4294967296) as u32
@@ -51,7 +51,7 @@ fn price(there: u64, n: u64) -> Price
     Price::Absent
 }
 
-pub fn hold(there: u64, n: u64) -> Hold
+fn hold(there: u64, n: u64) -> Hold
     ensures { λ r. ⌜ r ≡ hold-in there n ⌝ }
 {
     let stands = mark(there);
@@ -61,51 +61,88 @@ pub fn hold(there: u64, n: u64) -> Hold
     Hold::Idle
 }
 
-// The line that a row has.
-pub fn line(row: [u64; 21]) -> Line
-    ensures { λ r. ⌜ r ≡ line-in row ⌝ }
+// ---- what bounds are drawn from, in a line's first row
+
+// The id alone, for a walk over lines that has no use for the rest.
+pub fn id(row: &[u64; 16]) -> u32
+    ensures { λ r. ⌜ r ≡ terms-in (now (row .entry)) .id ⌝ }
 {
-    let halfmove = signed(row[3]);
-    let centre = signed(row[6]);
-    let half1 = signed(row[7]);
-    let half2 = signed(row[8]);
-    let half3 = signed(row[9]);
-    let upper = signed(row[10]);
-    let lower = signed(row[11]);
-    let bid = price(row[13], row[14]);
-    let ask = price(row[15], row[16]);
-    let up = hold(row[17], row[18]);
-    let down = hold(row[19], row[20]);
+    word(row[0])
+}
+
+fn terms(row: &[u64; 16]) -> Terms
+    ensures { λ r. ⌜ r ≡ terms-in (now (row .entry)) ⌝ }
+{
+    let negative = mark(row[9]);
+    Terms {
+        id: word(row[0]),
+        flags: word(row[1]),
+        negative: negative,
+        halfmove: signed(row[2]),
+        factors: Factors {
+            up: Billionths(row[3]),
+            down: Billionths(row[4]),
+        },
+    }
+}
+
+fn market(row: &[u64; 16]) -> Market
+    ensures { λ r. ⌜ r ≡ market-in (now (row .entry)) ⌝ }
+{
+    Market {
+        centre: signed(row[5]),
+        half1: signed(row[6]),
+        half2: signed(row[7]),
+        half3: signed(row[8]),
+    }
+}
+
+// ---- what pressure is judged on, in its second row
+
+fn limits(row: &[u64; 16]) -> Limits
+    ensures { λ r. ⌜ r ≡ limits-in (now (row .entry)) ⌝ }
+{
+    Limits {
+        upper: signed(row[0]),
+        lower: signed(row[1]),
+        frozen: mark(row[2]),
+    }
+}
+
+fn book(row: &[u64; 16]) -> Book
+    ensures { λ r. ⌜ r ≡ book-in (now (row .entry)) ⌝ }
+{
+    Book {
+        bid: price(row[3], row[4]),
+        ask: price(row[5], row[6]),
+    }
+}
+
+pub fn holds(row: &[u64; 16]) -> Holds
+    ensures { λ r. ⌜ r ≡ holds-in (now (row .entry)) ⌝ }
+{
+    Holds {
+        up: hold(row[7], row[8]),
+        down: hold(row[9], row[10]),
+    }
+}
+
+// The line that two rows have.
+pub fn line(pair: &[[u64; 16]; 2]) -> Line
+    ensures { λ r. ⌜ r ≡ line-in (now (pair .entry)) ⌝ }
+{
     Line {
-        terms: Terms {
-            id: word(row[0]),
-            flags: word(row[1]),
-            negative: mark(row[2]),
-            halfmove: halfmove,
-            factors: Factors {
-                up: Billionths(row[4]),
-                down: Billionths(row[5]),
-            },
-        },
-        market: Market {
-            centre: centre,
-            half1: half1,
-            half2: half2,
-            half3: half3,
-        },
-        limits: Limits {
-            upper: upper,
-            lower: lower,
-            frozen: mark(row[12]),
-        },
-        book: Book { bid: bid, ask: ask },
-        holds: Holds { up: up, down: down },
+        terms: terms(&pair[0]),
+        market: market(&pair[0]),
+        limits: limits(&pair[1]),
+        book: book(&pair[1]),
+        holds: holds(&pair[1]),
     }
 }
 
 // The head that a row has.
-pub fn head(row: [u64; 21]) -> Head
-    ensures { λ r. ⌜ r ≡ head-in row ⌝ }
+pub fn head(row: &[u64; 16]) -> Head
+    ensures { λ r. ⌜ r ≡ head-in (now (row .entry)) ⌝ }
 {
     Head {
         count: row[0] as usize,

@@ -1,11 +1,16 @@
-// The numbers that say it: a row from which its line or its head is read again. Which of several numbers stand for one thing, no contract says.
+// The numbers that say it: rows from which a line, or a head, is read again. Which of several numbers stand for one thing, no contract says.
 
 ghost use mathlib.Core.Path.{_≡_};
-ghost use Rattle.host_row.specs.Packed.{word-in, mark-in, signed-in, price-in, hold-in, line-in, head-in};
+ghost use Rattle.host_row.specs.Packed.{word-in, mark-in, signed-in, price-in, hold-in, terms-in, market-in, limits-in, book-in, holds-in, line-in, head-in};
 use crate::Head;
+use method::Book;
 use method::Hold;
+use method::Holds;
+use method::Limits;
 use method::Line;
+use method::Market;
 use method::Price;
+use method::Terms;
 use numbers::Steps;
 
 fn word_number(n: u32) -> u64
@@ -66,34 +71,19 @@ fn hold_numbers(h: Hold) -> Two
     }
 }
 
-// A row that has the line.
-pub fn row(l: Line) -> [u64; 21]
-    ensures { λ r. ⌜ line-in r ≡ l ⌝ }
+// A line's first row: what its bounds are drawn from.
+fn drawn_row(terms: Terms, market: Market) -> [u64; 16]
+    ensures { λ r. ⌜ (terms-in r ≡ terms) × (market-in r ≡ market) ⌝ }
 {
-    let terms = l.terms;
+    let negative = mark_number(terms.negative);
     let halfmove = terms.halfmove;
-    let market = l.market;
     let centre = market.centre;
     let half1 = market.half1;
     let half2 = market.half2;
     let half3 = market.half3;
-    let limits = l.limits;
-    let upper = limits.upper;
-    let lower = limits.lower;
-    let book = l.book;
-    let bid = book.bid;
-    let ask = book.ask;
-    let holds = l.holds;
-    let up = holds.up;
-    let down = holds.down;
-    let b = price_numbers(bid);
-    let a = price_numbers(ask);
-    let u = hold_numbers(up);
-    let d = hold_numbers(down);
     [
         word_number(terms.id),
         word_number(terms.flags),
-        mark_number(terms.negative),
         signed_number(halfmove),
         terms.factors.up.0,
         terms.factors.down.0,
@@ -101,6 +91,31 @@ pub fn row(l: Line) -> [u64; 21]
         signed_number(half1),
         signed_number(half2),
         signed_number(half3),
+        negative,
+        0,
+        0,
+        0,
+        0,
+        0,
+        0,
+    ]
+}
+
+// Its second row: what pressure is judged on.
+pub fn judged_row(limits: Limits, book: Book, holds: Holds) -> [u64; 16]
+    ensures { λ r. ⌜ (limits-in r ≡ limits) × (book-in r ≡ book) × (holds-in r ≡ holds) ⌝ }
+{
+    let upper = limits.upper;
+    let lower = limits.lower;
+    let bid = book.bid;
+    let ask = book.ask;
+    let up = holds.up;
+    let down = holds.down;
+    let b = price_numbers(bid);
+    let a = price_numbers(ask);
+    let u = hold_numbers(up);
+    let d = hold_numbers(down);
+    [
         signed_number(upper),
         signed_number(lower),
         mark_number(limits.frozen),
@@ -112,14 +127,31 @@ pub fn row(l: Line) -> [u64; 21]
         u.number,
         d.there,
         d.number,
+        0,
+        0,
+        0,
+        0,
+        0,
     ]
 }
 
+// Two rows that have the line.
+pub fn rows(l: Line) -> [[u64; 16]; 2]
+    ensures { λ r. ⌜ line-in r ≡ l ⌝ }
+{
+    let terms = l.terms;
+    let market = l.market;
+    let limits = l.limits;
+    let book = l.book;
+    let holds = l.holds;
+    [drawn_row(terms, market), judged_row(limits, book, holds)]
+}
+
 // A row that has the head.
-pub fn head_row(h: Head) -> [u64; 21]
+pub fn head_row(h: Head) -> [u64; 16]
     ensures { λ r. ⌜ head-in r ≡ h ⌝ }
 {
-    let mut row: [u64; 21] = [0; 21];
+    let mut row: [u64; 16] = [0; 16];
     row[0] = h.count as u64;
     row[1] = word_number(h.clock.0);
     row[2] = word_number(h.end.0);
