@@ -1,4 +1,4 @@
--- The rows of a session in memory, read and written one after another. Assumes nothing.
+-- The pairs of rows of a session in memory, read and written one after another. Assumes nothing.
 use mathlib.Core.Path.{_≡_, sym, ap, _∙_}
 use mathlib.Core.List.{List, [], _∷_, _++_, map, map-append}
 use Prim.Native.Nat.{ℕ, _+_, _<_}
@@ -8,7 +8,7 @@ use lib.ListN.{length, getD, set, take}
 use lib.Seq.{take-suc, take-suc-set, take-all}
 use Rattle.host_row.specs.Packed.{line-in}
 use Rattle.host_memory.specs.Names.{Line}
-use Rattle.host_memory.specs.Memory.{session-in}
+use Rattle.host_memory.specs.Memory.{Memory, session-in}
 
 -- ---- a list of images, one after another
 module _ {A B : Type 0} (f : A → B) (xs : List A) (ys : List B) (i : ℕ) (h : i < length xs) (g : i < length ys) where
@@ -26,7 +26,7 @@ module _ {A B : Type 0} (f : A → B) (xs : List A) (ys : List B) (i : ℕ) (h :
       (ap (map f) (take-suc-set xs i x h) ∙ map-append f (take i xs) (x ∷ []) ∙ ap (λ (zs : List B). zs ++ (f x ∷ [])) p
       ∙ ap (λ (y : B). take i ys ++ (y ∷ [])) e ∙ sym (take-suc ys i d g))
 
--- ---- the lines of all 32 rows
-pub all-lines : (rows : List (List ℕ)) (ls : List Line) (i : ℕ) → i ≡ 32 → length ls ≡ 32 → take i ls ≡ map line-in (take i rows) → ls ≡ session-in rows .lines
+-- ---- the lines of all 32 pairs
+pub all-lines : (pairs : Memory) (ls : List Line) (i : ℕ) → i ≡ 32 → length ls ≡ 32 → take i ls ≡ map line-in (take i pairs) → ls ≡ session-in pairs .lines
 unfolding session-in
-all-lines rows ls i e n p = sym (take-all 32 ls (omega arith)) ∙ ap (λ (k : ℕ). take k ls) (sym e) ∙ p ∙ ap (λ (k : ℕ). map line-in (take k rows)) e
+all-lines pairs ls i e n p = sym (take-all 32 ls (omega arith)) ∙ ap (λ (k : ℕ). take k ls) (sym e) ∙ p ∙ ap (λ (k : ℕ). map line-in (take k pairs)) e

@@ -1,2 +1,2 @@
-pub mod AllRows
+pub mod AllLines
 pub mod Places

@@ -1,22 +1,26 @@
--- One place of a session in memory: the head or a line that is read there, and one that is written. Assumes nothing.
+-- One place of a session in memory: the head or a line that is read there, and what is written. Assumes nothing.
 use mathlib.Core.Path.{_≡_, refl, sym, ap, _∙_}
 use mathlib.Core.List.{List, [], _∷_, map}
 use Prim.Native.Nat.{ℕ, zero, suc, _<_}
 use native.Mathlib.Omega.{arith}
-use lib.ListN.{length, getD, set, take, List·getD-map}
-use lib.Seq.{getD-take, take-set-le, take-set-lt, getD-set-same, getD-set-other}
+use lib.ListN.{length, getD, set, take, length-map, List·getD-map}
+use lib.Seq.{getD-take, length-take-le, take-set-le, take-set-lt, getD-set-same, getD-set-other}
 use Rattle.method.specs.words.Types.{blank}
 use Rattle.corridor.specs.View.{with-line}
-use Rattle.host_row.specs.Packed.{at, word-in, hold-in, line-in, head-in}
+use Rattle.host_row.specs.Packed.{no-row, drawn-row, judged-row, terms-in, market-in, limits-in, book-in, holds-in, line-in, head-in}
 use Rattle.host_memory.specs.Names.{Line, Head}
-use Rattle.host_memory.specs.Memory.{no-row, head-of, session-of, session-in}
+use Rattle.host_memory.specs.Memory.{Memory, no-pair, head-of, session-of, session-in}
 
 -- ---- the head is read
-pub head-is : (rows : List (List ℕ)) {h : Head} → h ≡ head-in (head-of rows) → session-in rows ≡ session-of (session-in rows .lines) h
+pub head-is : (pairs : Memory) {h : Head} → h ≡ head-in (head-of pairs) → session-in pairs ≡ session-of (session-in pairs .lines) h
 unfolding session-in
-head-is rows e = ap (session-of (map line-in (take 32 rows))) (sym e)
+head-is pairs e = ap (session-of (map line-in (take 32 pairs))) (sym e)
 
 -- ---- a line is read
+pub full-in : (pairs : Memory) → length pairs ≡ 33 → length (session-in pairs .lines) ≡ 32
+unfolding session-in
+full-in pairs h = length-map (take 32 pairs) line-in ∙ length-take-le 32 pairs (omega arith)
+
 -- what is read within a list does not hang on what would stand past its end
 within : {A : Type 0} (xs : List A) (i : ℕ) (d e : A) → i < length xs → getD xs i d ≡ getD xs i e
 within [] i d e h = absurd (never i h)
@@ -26,25 +30,11 @@ within [] i d e h = absurd (never i h)
 within (x ∷ xs) zero d e h = refl
 within (x ∷ xs) (suc i) d e h = within xs i d e (omega arith)
 
-pub line-at : (rows : List (List ℕ)) (i : ℕ) → length (session-in rows .lines) ≡ 32 → i < 32 → getD (session-in rows .lines) i blank ≡ line-in (getD rows i no-row)
+pub line-is : (pairs : Memory) (i : ℕ) → length pairs ≡ 33 → i < 32 → getD (session-in pairs .lines) i blank ≡ line-in (getD pairs i no-pair)
 unfolding session-in
-line-at rows i n h =
-    within (map line-in (take 32 rows)) i blank (line-in no-row) (omega (arith, n))
-    ∙ List·getD-map line-in (take 32 rows) i no-row ∙ ap line-in (getD-take 32 rows i no-row h)
-
--- of a row, only what a walk over all of them wants
-module _ (rows : List (List ℕ)) (i : ℕ) (n : length (session-in rows .lines) ≡ 32) (h : i < 32) where
-  pub id-at : getD (session-in rows .lines) i blank .terms .id ≡ word-in (at (getD rows i no-row) 0)
-  unfolding line-in
-  id-at = ap (λ (l : Line). l .terms .id) (line-at rows i n h)
-
-  pub holds-at : getD (session-in rows .lines) i blank .holds
-      ≡ record {
-        up = hold-in (at (getD rows i no-row) 17) (at (getD rows i no-row) 18);
-        down = hold-in (at (getD rows i no-row) 19) (at (getD rows i no-row) 20);
-      }
-  unfolding line-in
-  holds-at = ap (λ (l : Line). l .holds) (line-at rows i n h)
+line-is pairs i n h =
+    within (map line-in (take 32 pairs)) i blank (line-in no-pair) (omega (arith, full-in pairs n))
+    ∙ List·getD-map line-in (take 32 pairs) i no-pair ∙ ap line-in (getD-take 32 pairs i no-pair h)
 
 -- ---- a line is written
 map-set : {A B : Type 0} (f : A → B) (xs : List A) (i : ℕ) (x : A) → map f (set xs i x) ≡ set (map f xs) i (f x)
@@ -52,19 +42,55 @@ map-set f [] i x = refl
 map-set f (y ∷ xs) zero x = refl
 map-set f (y ∷ xs) (suc i) x = ap (λ (zs : List _). f y ∷ zs) (map-set f xs i x)
 
-pub line-stored : (rows : List (List ℕ)) (p : ℕ) (row : List ℕ) (m : Line) → p < 32 → line-in row ≡ m → session-in (set rows p row) ≡ with-line (session-in rows) p m
+line-stored : (pairs : Memory) (p : ℕ) (pair : List (List ℕ)) (m : Line) → p < 32 → line-in pair ≡ m → session-in (set pairs p pair) ≡ with-line (session-in pairs) p m
 unfolding session-in
-line-stored rows p row m h e =
-    ap (λ (ls : List Line). session-of ls (head-in (head-of (set rows p row)))) (ap (map line-in) (take-set-lt 32 rows p row h) ∙ map-set line-in (take 32 rows) p row)
-    ∙ ap (λ (l : Line). session-of (set (map line-in (take 32 rows)) p l) (head-in (head-of (set rows p row)))) e
-    ∙ ap (λ (r : List ℕ). session-of (set (map line-in (take 32 rows)) p m) (head-in r)) (getD-set-other rows p 32 row no-row other)
+line-stored pairs p pair m h e =
+    ap (λ (ls : List Line). session-of ls (head-in (head-of (set pairs p pair)))) (ap (map line-in) (take-set-lt 32 pairs p pair h) ∙ map-set line-in (take 32 pairs) p pair)
+    ∙ ap (λ (l : Line). session-of (set (map line-in (take 32 pairs)) p l) (head-in (head-of (set pairs p pair)))) e
+    ∙ ap (λ (r : List (List ℕ)). session-of (set (map line-in (take 32 pairs)) p m) (head-in (getD r 0 no-row))) (getD-set-other pairs p 32 pair no-pair other)
   where
     other : 32 ≡ p → ⊥
     other q = omega arith
 
--- ---- the head is written
-pub head-stored : (rows : List (List ℕ)) (row : List ℕ) {h : Head} → length rows ≡ 33 → head-in row ≡ h → session-in (set rows 32 row) ≡ session-of (session-in rows .lines) h
+-- its second row alone
+module _ (pairs : Memory) (p : ℕ) (row : List ℕ) (m : Line) (long : length pairs ≡ 33) (two : length (getD pairs p no-pair) ≡ 2) (h : p < 32) where
+  abbrev pair : List (List ℕ)
+  pair = getD pairs p no-pair
+
+  first-stands : drawn-row (set pair 1 row) ≡ drawn-row pair
+  first-stands = getD-set-other pair 1 0 row no-row (λ q. omega arith)
+
+  second-is : judged-row (set pair 1 row) ≡ row
+  second-is = getD-set-same pair 1 row no-row (omega arith)
+
+  abbrev stood : Line
+  stood = getD (session-in pairs .lines) p blank
+
+  pub judged-stored : (stood .terms ≡ m .terms) × (stood .market ≡ m .market) → (limits-in row ≡ m .limits) × (book-in row ≡ m .book) × (holds-in row ≡ m .holds)
+      → session-in (set pairs p (set pair 1 row)) ≡ with-line (session-in pairs) p m
+  unfolding line-in
+  judged-stored (terms, market) (limits, book, holds) =
+      let was = line-is pairs p long h in
+      line-stored pairs p (set pair 1 row) m h
+      (λ j.
+      record {
+        terms = (ap terms-in first-stands ∙ sym (ap (λ (l : Line). l .terms) was) ∙ terms) j;
+        market = (ap market-in first-stands ∙ sym (ap (λ (l : Line). l .market) was) ∙ market) j;
+        limits = (ap limits-in second-is ∙ limits) j;
+        book = (ap book-in second-is ∙ book) j;
+        holds = (ap holds-in second-is ∙ holds) j;
+      })
+
+-- ---- the head is written, in its pair
+pub head-stored : (pairs : Memory) (pair : List (List ℕ)) {h : Head} → length pairs ≡ 33 → head-in (getD pair 0 no-row) ≡ h → session-in (set pairs 32 pair) ≡ session-of (session-in pairs .lines) h
 unfolding session-in
-head-stored rows row long e =
-    ap (λ (ls : List Line). session-of ls (head-in (head-of (set rows 32 row)))) (ap (map line-in) (take-set-le 32 rows 32 row (omega arith)))
-    ∙ ap (session-of (map line-in (take 32 rows))) (ap head-in (getD-set-same rows 32 row no-row (omega arith)) ∙ e)
+head-stored pairs pair long e =
+    ap (λ (ls : List Line). session-of ls (head-in (head-of (set pairs 32 pair)))) (ap (map line-in) (take-set-le 32 pairs 32 pair (omega arith)))
+    ∙ ap (session-of (map line-in (take 32 pairs))) (ap (λ (r : List (List ℕ)). head-in (getD r 0 no-row)) (getD-set-same pairs 32 pair no-pair (omega arith)) ∙ e)
+
+-- its row alone
+pub head-row-stored : (pairs : Memory) (row : List ℕ) {h : Head} → length pairs ≡ 33 → length (getD pairs 32 no-pair) ≡ 2 → head-in row ≡ h
+    → session-in (set pairs 32 (set (getD pairs 32 no-pair) 0 row)) ≡ session-of (session-in pairs .lines) h
+head-row-stored pairs row long two e =
+    let pair = getD pairs 32 no-pair in
+    head-stored pairs (set pair 0 row) long (ap head-in (getD-set-same pair 0 row no-row (omega (arith, two))) ∙ e)

@@ -1,55 +1,102 @@
-// A session as 33 rows of 21 numbers, in memory that a host owns: the whole session out of it and into it; and one line of it, or its clock,
-// where it lies.
+// A session as 33 pairs of rows of 16 numbers, in memory that a host owns: the whole session out of it and into it; and its head, one line of
+// it, or what an event changes of these, where it lies. No crate above this one knows a place in the memory.
 
 ghost use mathlib.Core.Path.{_≡_};
 ghost use Prim.Native.Nat.{_<_};
-ghost use lib.ListN.{length};
+ghost use lib.ListN.{length, getD};
+ghost use Rattle.method.specs.words.Types.{blank};
 ghost use Rattle.corridor.specs.View.{moved-on, with-line};
-ghost use Rattle.host_memory.specs.Memory.{session-in};
+ghost use Rattle.host_memory.specs.Memory.{session-of, session-in};
 use corridor::Session;
 use host_row::Head;
 use host_row::reading;
 use host_row::writing;
+use method::Holds;
 use method::Line;
 use numbers::Seconds;
 
-// Each line has a row, and one more row is the last.
+// Each line has a pair of rows, and one more pair is the last.
 const LINES: usize = 32;
 
 // How many numbers a session takes.
 pub fn numbers() -> usize
-    ensures { λ r. ⌜ r ≡ 693 ⌝ }
+    ensures { λ r. ⌜ r ≡ 1056 ⌝ }
 {
-    (LINES + 1) * 21
+    (LINES + 1) * 2 * 16
 }
 
-fn size(rows: &[[u64; 21]]) -> usize
-    ensures { λ r. ⌜ r ≡ length (now (rows .entry)) ⌝ }
+// ---- lengths. A type says them to the machine; a proof is told by these.
+
+fn size(pairs: &[[[u64; 16]; 2]]) -> usize
+    ensures { λ r. ⌜ r ≡ length (now (pairs .entry)) ⌝ }
 {
-    rows.len()
+    pairs.len()
 }
 
-// How many rows there are. The type says it to the machine; a proof is told by this.
-pub fn rows(memory: &[[u64; 21]; 33]) -> usize
+// How many pairs there are.
+pub fn pairs(memory: &[[[u64; 16]; 2]; 33]) -> usize
     ensures { λ r. ⌜ (r ≡ 33) × (length (now (memory .entry)) ≡ 33) ⌝ }
 {
     size(memory)
 }
 
-pub fn taken(memory: &[[u64; 21]; 33]) -> Session
+fn rows_in(rows: &[[u64; 16]]) -> usize
+    ensures { λ r. ⌜ r ≡ length (now (rows .entry)) ⌝ }
+{
+    rows.len()
+}
+
+// How many rows a pair has.
+fn rows(pair: &[[u64; 16]; 2]) -> usize
+    ensures { λ r. ⌜ (r ≡ 2) × (length (now (pair .entry)) ≡ 2) ⌝ }
+{
+    rows_in(pair)
+}
+
+// ---- what is read
+
+pub fn head(memory: &[[[u64; 16]; 2]; 33]) -> Head
+    ensures { λ r. ⌜ session-in (now (memory .entry)) ≡ session-of (session-in (now (memory .entry)) .lines) r ⌝ }
+{
+    reading::head(&memory[32][0])
+}
+
+pub fn line_at(memory: &[[[u64; 16]; 2]; 33], place: usize) -> Line
+    requires { ⌜ place < 32 ⌝ }
+    ensures { λ r. ⌜ getD (session-in (now (memory .entry)) .lines) place blank ≡ r ⌝ }
+{
+    pairs(memory);
+    reading::line(&memory[place])
+}
+
+// Of a line its id alone, or its holds: what a walk over all lines wants.
+pub fn id_at(memory: &[[[u64; 16]; 2]; 33], place: usize) -> u32
+    requires { ⌜ place < 32 ⌝ }
+    ensures { λ r. ⌜ getD (session-in (now (memory .entry)) .lines) place blank .terms .id ≡ r ⌝ }
+{
+    pairs(memory);
+    reading::id(&memory[place][0])
+}
+
+pub fn holds_at(memory: &[[[u64; 16]; 2]; 33], place: usize) -> Holds
+    requires { ⌜ place < 32 ⌝ }
+    ensures { λ r. ⌜ getD (session-in (now (memory .entry)) .lines) place blank .holds ≡ r ⌝ }
+{
+    pairs(memory);
+    reading::holds(&memory[place][1])
+}
+
+pub fn taken(memory: &[[[u64; 16]; 2]; 33]) -> Session
     ensures { λ r. ⌜ r ≡ session-in (now (memory .entry)) ⌝ }
 {
-    rows(memory);
-    let top = memory[0];
-    let first = reading::line(top);
+    pairs(memory);
+    let first = reading::line(&memory[0]);
     let mut lines = [first; 32];
     for i in 0..LINES {
-        let row = memory[i];
-        let l = reading::line(row);
+        let l = reading::line(&memory[i]);
         lines[i] = l;
     }
-    let last = memory[32];
-    let h = reading::head(last);
+    let h = head(memory);
     let clock = h.clock;
     let end = h.end;
     let hold = h.hold;
@@ -65,20 +112,22 @@ pub fn taken(memory: &[[u64; 21]; 33]) -> Session
     }
 }
 
-pub fn kept(memory: &mut [[u64; 21]; 33], s: Session)
+// ---- what is written
+
+pub fn kept(memory: &mut [[[u64; 16]; 2]; 33], s: Session)
     ensures { λ _. ⌜ session-in (now (memory .exit)) ≡ s ⌝ }
 {
-    rows(memory);
+    pairs(memory);
     for i in 0..LINES {
         let l = s.lines[i];
-        let row = writing::row(l);
-        memory[i] = row;
+        let pair = writing::rows(l);
+        memory[i] = pair;
     }
     let clock = s.clock;
     let end = s.end;
     let hold = s.hold;
     let near = s.near;
-    let last = writing::head_row(Head {
+    let top = writing::head_row(Head {
         count: s.count,
         clock: clock,
         end: end,
@@ -86,23 +135,30 @@ pub fn kept(memory: &mut [[u64; 21]; 33], s: Session)
         left: s.left,
         near: near,
     });
-    memory[32] = last;
+    memory[32] = [top, [0; 16]];
 }
 
-// Another line at a place.
-pub fn with_line(memory: &mut [[u64; 21]; 33], place: usize, l: Line)
-    requires { ⌜ place < 32 ⌝ }
+// A line after a quote, in the place of the one before: its second row alone, since its terms and its market stand.
+pub fn with_quote(memory: &mut [[[u64; 16]; 2]; 33], place: usize, l: Line)
+    requires { ⌜ (place < 32) × (getD (session-in (now memory) .lines) place blank .terms ≡ l .terms)
+        × (getD (session-in (now memory) .lines) place blank .market ≡ l .market) ⌝ }
     ensures { λ _. ⌜ session-in (now (memory .exit)) ≡ with-line (session-in (now (memory .entry))) place l ⌝ }
 {
-    memory[place] = writing::row(l);
+    pairs(memory);
+    rows(&memory[place]);
+    let limits = l.limits;
+    let book = l.book;
+    let holds = l.holds;
+    let row = writing::judged_row(limits, book, holds);
+    memory[place][1] = row;
 }
 
 // Another clock.
-pub fn with_clock(memory: &mut [[u64; 21]; 33], t: Seconds)
+pub fn with_clock(memory: &mut [[[u64; 16]; 2]; 33], t: Seconds)
     ensures { λ _. ⌜ session-in (now (memory .exit)) ≡ moved-on (session-in (now (memory .entry))) (session-in (now (memory .entry)) .lines) t ⌝ }
 {
-    rows(memory);
-    let row = memory[32];
-    let h = reading::head(row);
-    memory[32] = writing::head_row(Head { clock: t, ..h });
+    pairs(memory);
+    rows(&memory[32]);
+    let h = head(memory);
+    memory[32][0] = writing::head_row(Head { clock: t, ..h });
 }

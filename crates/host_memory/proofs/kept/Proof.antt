@@ -10,7 +10,7 @@ use Rattle.method.specs.words.Types.{blank}
 use Rattle.corridor.specs.View.{moved-on}
 use Rattle.host_row.specs.Packed.{line-in}
 use Rattle.host_memory.specs.Names.{Line}
-use Rattle.host_memory.proofs.AllRows.{store-turn, all-lines}
+use Rattle.host_memory.proofs.AllLines.{store-turn, all-lines}
 use Rattle.host_memory.proofs.Places.{head-stored}
 use Rattle.host_memory.proofs.kept.Statement.{statement}
 use Rattle.host_memory.proofs.kept.Tie as tie
@@ -21,11 +21,11 @@ Inv-loop memory₀ s i₀ memory i = (i ≤ 32) × (length memory ≡ 33) × (le
 abbrev μ-loop : tie.MeasureT-loop
 μ-loop memory₀ s i₀ memory i = 32 - i
 
-rows-requires : tie.Need-rows-requires Inv-loop μ-loop
-rows-requires c κs = search needs
+pairs-requires : tie.Need-pairs-requires Inv-loop μ-loop
+pairs-requires c κs = search needs
 
 loop-holds : tie.Need-loop-holds Inv-loop μ-loop
-loop-holds c = (omega arith, c .rows .ensures .1, search (needs, full), refl)
+loop-holds c = (omega arith, c .pairs .ensures .1, search (needs, full), refl)
 
 mul-l : tie.Need-mul-l Inv-loop μ-loop
 mul-l c = omega arith
@@ -33,14 +33,14 @@ mul-l c = omega arith
 element-copy-out-l : tie.Need-element-copy-out-l Inv-loop μ-loop
 element-copy-out-l c = omega (arith, c .before .loop .inv .2)
 
-row-requires : tie.Need-row-requires Inv-loop μ-loop
-row-requires c κs = search needs
+rows-requires : tie.Need-rows-requires Inv-loop μ-loop
+rows-requires c κs = search needs
 
-mul-row : tie.Need-mul-row Inv-loop μ-loop
-mul-row c = omega arith
+mul-pair : tie.Need-mul-pair Inv-loop μ-loop
+mul-pair c = omega arith
 
-element-set-from-row : tie.Need-element-set-from-row Inv-loop μ-loop
-element-set-from-row c = omega arith
+element-set-from-pair : tie.Need-element-set-from-pair Inv-loop μ-loop
+element-set-from-pair c = omega arith
 
 add-i : tie.Need-add-i Inv-loop μ-loop
 add-i c = omega arith
@@ -55,14 +55,14 @@ loop-again c =
       omega arith,
       length-set (at .memory) (at .i) _ ∙ at .inv .1,
       at .inv .2,
-      store-turn line-in (at .memory) (s .lines) (at .i) (omega (arith, at .inv .1)) (omega (arith, at .inv .2)) _ blank (c .row .ensures) (at .inv .3),
+      store-turn line-in (at .memory) (s .lines) (at .i) (omega (arith, at .inv .1)) (omega (arith, at .inv .2)) _ blank (c .rows .ensures) (at .inv .3),
     )
 
 head-row-requires : tie.Need-head-row-requires Inv-loop μ-loop
 head-row-requires c κs = search needs
 
-element-set-from-last : tie.Need-element-set-from-last Inv-loop μ-loop
-element-set-from-last c = search needs
+element-set-from-memory : tie.Need-element-set-from-memory Inv-loop μ-loop
+element-set-from-memory c = search needs
 
 returns : tie.Need-returns Inv-loop μ-loop
 returns c =
@@ -77,16 +77,16 @@ kept-spec =
     (tie.spec
     Inv-loop
     μ-loop
-    rows-requires
+    pairs-requires
     loop-holds
     mul-l
     element-copy-out-l
-    row-requires
-    mul-row
-    element-set-from-row
+    rows-requires
+    mul-pair
+    element-set-from-pair
     add-i
     loop-less
     loop-again
     head-row-requires
-    element-set-from-last
+    element-set-from-memory
     returns)

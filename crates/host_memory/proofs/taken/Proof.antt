@@ -8,9 +8,8 @@ use denote.Ref.{now}
 use lib.ListN.{length, take, length-set}
 use Rattle.host_row.specs.Packed.{line-in}
 use Rattle.host_memory.specs.Names.{Line}
-use Rattle.host_memory.specs.Memory.{no-row, session-of}
-use Rattle.host_memory.proofs.AllRows.{gather-turn, all-lines}
-use Rattle.host_memory.proofs.Places.{head-is}
+use Rattle.host_memory.specs.Memory.{no-pair, session-of}
+use Rattle.host_memory.proofs.AllLines.{gather-turn, all-lines}
 use Rattle.host_memory.proofs.taken.Statement.{statement}
 use Rattle.host_memory.proofs.taken.Tie as tie
 
@@ -20,23 +19,23 @@ Inv-loop memory lines₀ i₀ lines i = (i ≤ 32) × (length memory ≡ 33) × 
 abbrev μ-loop : tie.MeasureT-loop
 μ-loop memory lines₀ i₀ lines i = 32 - i
 
-rows-requires : tie.Need-rows-requires Inv-loop μ-loop
-rows-requires c κs = search needs
+pairs-requires : tie.Need-pairs-requires Inv-loop μ-loop
+pairs-requires c κs = search needs
 
-element-copy-out-top : tie.Need-element-copy-out-top Inv-loop μ-loop
-element-copy-out-top c = search needs
+index-1-line : tie.Need-index-1-line Inv-loop μ-loop
+index-1-line c = search needs
 
 line-requires : tie.Need-line-requires Inv-loop μ-loop
 line-requires c κs = search needs
 
 loop-holds : tie.Need-loop-holds Inv-loop μ-loop
-loop-holds c = (omega arith, c .before .before .rows .ensures .1, refl, refl)
+loop-holds c = (omega arith, c .before .before .pairs .ensures .1, refl, refl)
 
-mul-row : tie.Need-mul-row Inv-loop μ-loop
-mul-row c = omega arith
+mul-line : tie.Need-mul-line Inv-loop μ-loop
+mul-line c = omega arith
 
-element-copy-out-row : tie.Need-element-copy-out-row Inv-loop μ-loop
-element-copy-out-row c = omega arith
+index-1-line-2 : tie.Need-index-1-line-2 Inv-loop μ-loop
+index-1-line-2 c = omega arith
 
 line-requires-2 : tie.Need-line-requires-2 Inv-loop μ-loop
 line-requires-2 c κs = search needs
@@ -56,15 +55,12 @@ loop-less c = omega arith
 loop-again : tie.Need-loop-again Inv-loop μ-loop
 loop-again c =
     let at = c .before .before .before .loop in
-    let rows = now (c .before .before .before .before .before .before .before .args .memory) in (
+    let pairs = now (c .before .before .before .before .before .before .before .args .memory) in (
       omega arith,
       at .inv .1,
       length-set (at .lines) (at .i) _ ∙ at .inv .2,
-      gather-turn line-in rows (at .lines) (at .i) (omega (arith, at .inv .1)) (omega (arith, at .inv .2)) no-row _ (c .line2 .ensures) (at .inv .3),
+      gather-turn line-in pairs (at .lines) (at .i) (omega (arith, at .inv .1)) (omega (arith, at .inv .2)) no-pair _ (c .line2 .ensures) (at .inv .3),
     )
-
-element-copy-out-last : tie.Need-element-copy-out-last Inv-loop μ-loop
-element-copy-out-last c = search needs
 
 head-requires : tie.Need-head-requires Inv-loop μ-loop
 head-requires c κs = search needs
@@ -72,10 +68,10 @@ head-requires c κs = search needs
 returns : tie.Need-returns Inv-loop μ-loop
 returns c =
     let h = c .before .before .before .before in
-    let loop = h .before .before .before .loop in
-    let rows = now (h .before .before .before .before .before .before .before .args .memory) in
-    ap (λ (ls : List Line). session-of ls (h .head .result)) (all-lines rows (loop .lines) (loop .i) (omega arith) (loop .inv .2) (loop .inv .3))
-    ∙ sym (head-is rows (h .head .ensures))
+    let loop = h .before .before .loop in
+    let pairs = now (h .before .before .before .before .before .before .args .memory) in
+    ap (λ (ls : List Line). session-of ls (h .head .result)) (all-lines pairs (loop .lines) (loop .i) (omega arith) (loop .inv .2) (loop .inv .3))
+    ∙ sym (h .head .ensures)
 
 pub taken-spec : {M : Type 1} → statement M
 taken-spec =
@@ -83,18 +79,17 @@ taken-spec =
     (tie.spec
     Inv-loop
     μ-loop
-    rows-requires
-    element-copy-out-top
+    pairs-requires
+    index-1-line
     line-requires
     loop-holds
-    mul-row
-    element-copy-out-row
+    mul-line
+    index-1-line-2
     line-requires-2
     mul-lines
     array-set-from-lines
     add-i
     loop-less
     loop-again
-    element-copy-out-last
     head-requires
     returns)

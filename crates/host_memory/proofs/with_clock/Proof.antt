@@ -5,15 +5,18 @@ use denote.Ref.{now}
 use Rattle.corridor.specs.View.{moved-on}
 use Rattle.host_memory.specs.Names.{Session}
 use Rattle.host_memory.specs.Memory.{session-in}
-use Rattle.host_memory.proofs.Places.{head-is, head-stored}
+use Rattle.host_memory.proofs.Places.{head-row-stored}
 use Rattle.host_memory.proofs.with_clock.Statement.{statement}
 use Rattle.host_memory.proofs.with_clock.Tie as tie
 
+pairs-requires : tie.Need-pairs-requires
+pairs-requires c κs = search needs
+
+index-1-rows : tie.Need-index-1-rows
+index-1-rows c = search needs
+
 rows-requires : tie.Need-rows-requires
 rows-requires c κs = search needs
-
-element-copy-out-row : tie.Need-element-copy-out-row
-element-copy-out-row c = search needs
 
 head-requires : tie.Need-head-requires
 head-requires c κs = search needs
@@ -21,24 +24,29 @@ head-requires c κs = search needs
 head-row-requires : tie.Need-head-row-requires
 head-row-requires c κs = search needs
 
-element-set-from-memory : tie.Need-element-set-from-memory
-element-set-from-memory c = search needs
+index-1-memory : tie.Need-index-1-memory
+index-1-memory c = search needs
+
+index-2-memory : tie.Need-index-2-memory
+index-2-memory c = search needs
 
 returns : tie.Need-returns
 returns c =
     let h = c .before .before .before .before in
-    let s = h .before .before .before .before in
-    let rows = now (s .args .memory) in
-    head-stored rows _ (h .before .before .rows .ensures .1) (c .head-row .ensures)
-    ∙ ap (λ (z : Session). moved-on z (session-in rows .lines) (s .args .t)) (sym (head-is rows (h .head .ensures)))
+    let s = h .before .before .before .before .before .before in
+    let pairs = now (s .args .memory) in
+    head-row-stored pairs _ (h .before .before .before .before .pairs .ensures .1) (h .before .before .rows .ensures .1) (c .head-row .ensures)
+    ∙ ap (λ (z : Session). moved-on z (session-in pairs .lines) (s .args .t)) (sym (h .head .ensures))
 
 pub with-clock-spec : {M : Type 1} → statement M
 with-clock-spec =
     tie.close
     (tie.spec
+    pairs-requires
+    index-1-rows
     rows-requires
-    element-copy-out-row
     head-requires
     head-row-requires
-    element-set-from-memory
+    index-1-memory
+    index-2-memory
     returns)
