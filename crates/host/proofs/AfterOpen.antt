@@ -10,7 +10,7 @@ use Rattle.method.specs.told.Refusals.{table-number, table-said}
 use Rattle.corridor.specs.View.{Valid}
 use Rattle.corridor.specs.Handed.{opened-by}
 use Rattle.corridor.proofs.Theorems.{valid-open, refused-opens-none}
-use Rattle.host_memory.specs.Memory.{session-in}
+use Rattle.host_memory.specs.Memory.{Memory, session-in}
 use Rattle.host.specs.Checked.{TellsAfterOpen}
 
 at-least-one : (why : TableReason) → 1 ≤ table-number why
@@ -28,15 +28,15 @@ at-least-one TableReason.Corridor = omega arith
 not-zero : (why : TableReason) → pos (table-number why) ≡ pos 0 → ⊥
 not-zero why e = let z : table-number why ≡ 0 = cc in omega (arith, at-least-one why)
 
-module _ (table : List ℕ) (number : ℤ) (rows : List (List ℕ)) (left : session-in rows ≡ opened-by table .session) where
+module _ (table : List ℕ) (number : ℤ) (memory : Memory) (left : session-in memory ≡ opened-by table .session) where
   sound-or-none : (a : TableAnswer) → opened-by table .answer ≡ a → number ≡ pos (table-said a .number)
-      → (number ≡ pos 0 → Valid (session-in rows)) × ((number ≡ pos 0 → ⊥) → Valid (session-in rows) → ⊥)
+      → (number ≡ pos 0 → Valid (session-in memory)) × ((number ≡ pos 0 → ⊥) → Valid (session-in memory) → ⊥)
   unfolding table-said
   sound-or-none TableAnswer.Opened e n = (λ _. rw left (valid-open table e), λ no. absurd (no n))
   sound-or-none (TableAnswer.Refused why line) e n =
       (λ z. absurd (not-zero why (sym n ∙ z)), λ _ v. refused-opens-none table why line e (rw left at v))
 
 pub tells-after-open : TellsAfterOpen
-tells-after-open table number rows n left sound broken told =
-    let found = sound-or-none table number rows left (opened-by table .answer) refl n in
+tells-after-open table number memory n left sound broken told =
+    let found = sound-or-none table number memory left (opened-by table .answer) refl n in
     (λ z. told .0 (found .0 z), λ no. told .1 (found .1 no))

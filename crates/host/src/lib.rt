@@ -24,14 +24,18 @@ ghost use Rattle.host.specs.Checked.{damaged, damaged-count, Tells};
 // How many numbers a session takes in memory, for a host that holds its own constant to it.
 #[no_mangle]
 pub extern "C" fn sundewcup_session_numbers() -> usize
-    ensures { λ r. ⌜ r ≡ 693 ⌝ }
+    ensures { λ r. ⌜ r ≡ 1056 ⌝ }
 {
     host_memory::numbers()
 }
 
 // Opens a session. After a refused table the memory holds none, and every function that checks refuses it as damaged (`tells-after-open`).
 #[no_mangle]
-pub extern "C" fn sundewcup_open(session: &mut [[u64; 21]; 33], table: &[u8], line: &mut i64) -> i64
+pub extern "C" fn sundewcup_open(
+    session: &mut [[[u64; 16]; 2]; 33],
+    table: &[u8],
+    line: &mut i64,
+) -> i64
     ensures { λ r. ⌜ r ≡ pos (table-said (opened-session (opening (now (table .entry))) .answer) .number) ⌝ }
     ensures { λ _. ⌜ now (line .exit) ≡ line-said (opened-session (opening (now (table .entry))) .answer) ⌝ }
     ensures { λ _. ⌜ session-in (now (session .exit)) ≡ opened-session (opening (now (table .entry))) .session ⌝ }
@@ -41,7 +45,7 @@ pub extern "C" fn sundewcup_open(session: &mut [[u64; 21]; 33], table: &[u8], li
 
 // Whether the memory has a session: 0, or the number of a damaged one.
 #[no_mangle]
-pub extern "C" fn sundewcup_check(session: &[[u64; 21]; 33]) -> i64
+pub extern "C" fn sundewcup_check(session: &[[[u64; 16]; 2]; 33]) -> i64
     ensures { λ r. ⌜ Tells (now (session .entry)) (r ≡ pos 0) (r ≡ damaged) ⌝ }
 {
     if host_intact::sound(session) {
@@ -52,7 +56,7 @@ pub extern "C" fn sundewcup_check(session: &[[u64; 21]; 33]) -> i64
 
 #[no_mangle]
 pub extern "C" fn sundewcup_event(
-    session: &mut [[u64; 21]; 33],
+    session: &mut [[[u64; 16]; 2]; 33],
     bytes: &[u8],
     out: &mut [i64; 96],
     made: &mut usize,
@@ -78,7 +82,7 @@ pub extern "C" fn sundewcup_event(
 // One event, with no test of the memory first, for a host that answers for its memory.
 #[no_mangle]
 pub extern "C" fn sundewcup_event_unchecked(
-    session: &mut [[u64; 21]; 33],
+    session: &mut [[[u64; 16]; 2]; 33],
     bytes: &[u8],
     out: &mut [i64; 96],
     made: &mut usize,
@@ -94,7 +98,7 @@ pub extern "C" fn sundewcup_event_unchecked(
 
 #[no_mangle]
 pub extern "C" fn sundewcup_feed(
-    session: &mut [[u64; 21]; 33],
+    session: &mut [[[u64; 16]; 2]; 33],
     events: &[u8],
     out: &mut [i64],
 ) -> usize
@@ -114,7 +118,7 @@ pub extern "C" fn sundewcup_feed(
 }
 
 #[no_mangle]
-pub extern "C" fn sundewcup_close(session: &[[u64; 21]; 33], out: &mut [i64]) -> usize
+pub extern "C" fn sundewcup_close(session: &[[[u64; 16]; 2]; 33], out: &mut [i64]) -> usize
     ensures { λ r. ⌜ Tells (now (session .entry))
         (r ≡ number-in (closed (session-in (now (session .entry))) (length (now (out .entry))))) (r ≡ damaged-count) ⌝ }
     ensures { λ _. ⌜ Tells (now (session .entry))
@@ -127,7 +131,11 @@ pub extern "C" fn sundewcup_close(session: &[[u64; 21]; 33], out: &mut [i64]) ->
 }
 
 #[no_mangle]
-pub extern "C" fn sundewcup_limits(session: &[[u64; 21]; 33], id: u32, out: &mut [i64; 3]) -> i64
+pub extern "C" fn sundewcup_limits(
+    session: &[[[u64; 16]; 2]; 33],
+    id: u32,
+    out: &mut [i64; 3],
+) -> i64
     ensures { λ r. ⌜ Tells (now (session .entry))
         (r ≡ pos (limits-said (limits id (view (session-in (now (session .entry))))) .number)) (r ≡ damaged) ⌝ }
     ensures { λ _. ⌜ Tells (now (session .entry))
@@ -142,7 +150,7 @@ pub extern "C" fn sundewcup_limits(session: &[[u64; 21]; 33], id: u32, out: &mut
 
 #[no_mangle]
 pub extern "C" fn sundewcup_report(
-    session: &[[u64; 21]; 33],
+    session: &[[[u64; 16]; 2]; 33],
     id: u32,
     out: &mut [[i64; 6]; 4],
 ) -> i64
@@ -159,7 +167,7 @@ pub extern "C" fn sundewcup_report(
 }
 
 #[no_mangle]
-pub extern "C" fn sundewcup_place(session: &[[u64; 21]; 33], id: u32, price: i64) -> i64
+pub extern "C" fn sundewcup_place(session: &[[[u64; 16]; 2]; 33], id: u32, price: i64) -> i64
     ensures { λ r. ⌜ Tells (now (session .entry))
         (r ≡ place-number (place id (steps price) (view (session-in (now (session .entry)))))) (r ≡ damaged) ⌝ }
 {
@@ -171,7 +179,11 @@ pub extern "C" fn sundewcup_place(session: &[[u64; 21]; 33], id: u32, price: i64
 
 // The place of an order price, with no test of the memory first.
 #[no_mangle]
-pub extern "C" fn sundewcup_place_unchecked(session: &[[u64; 21]; 33], id: u32, price: i64) -> i64
+pub extern "C" fn sundewcup_place_unchecked(
+    session: &[[[u64; 16]; 2]; 33],
+    id: u32,
+    price: i64,
+) -> i64
     requires { ⌜ Valid (session-in (now session)) ⌝ }
     ensures { λ r. ⌜ r ≡ place-number (place id (steps price) (view (session-in (now (session .entry))))) ⌝ }
 {

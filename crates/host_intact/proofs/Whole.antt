@@ -1,10 +1,8 @@
 -- The tests together say what every session has. Assumes nothing.
-use mathlib.Core.Path.{_≡_, _∙_}
-use mathlib.Core.List.{List}
+use mathlib.Core.Path.{_≡_}
 use Prim.Native.Nat.{ℕ}
 use native.Mathlib.Omega.{arith}
-use lib.ListN.{length, take, length-map}
-use lib.Seq.{length-take-le}
+use lib.ListN.{length}
 use Rattle.numbers.specs.declared.Millionths.{Millionths}
 use Rattle.method.specs.words.Types.{session-ids}
 use Rattle.method.specs.computed.Head.{most-left}
@@ -17,13 +15,7 @@ use Rattle.method.proofs.Serving.{none-due-done, done-none-due}
 use Rattle.host_line.proofs.Whole.{rows-all, all-rows}
 use Rattle.corridor.specs.declared.Session.{Session}
 use Rattle.corridor.specs.View.{view, Valid}
-use Rattle.host_row.specs.Packed.{line-in}
-use Rattle.host_memory.specs.Memory.{session-in}
 use Rattle.host_intact.specs.Tests.{BesideIn, LinesIn}
-
-pub full-in : (rows : List (List ℕ)) → length rows ≡ 33 → length (session-in rows .lines) ≡ 32
-unfolding session-in
-full-in rows h = length-map (take 32 rows) line-in ∙ length-take-le 32 rows (omega arith)
 
 -- what is decided of a line
 abbrev pub Fit : Millionths → ℕ → ℕ → Line → Type 0

@@ -10,30 +10,24 @@ ghost use Rattle.method.specs.computed.Sound.{Distinct};
 ghost use Rattle.corridor.specs.View.{view, Valid};
 ghost use Rattle.host_memory.specs.Memory.{session-in};
 ghost use Rattle.host_intact.specs.Tests.{BesideIn, LinesIn};
-use host_row::reading;
 use method::Found;
-use method::Holds;
 
-fn beside(session: &[[u64; 21]; 33]) -> bool
+fn beside(session: &[[[u64; 16]; 2]; 33]) -> bool
     ensures { λ r. ⌜ Decides r (BesideIn (session-in (now (session .entry)))) ⌝ }
 {
-    let top = session[32];
-    let h = reading::head(top);
+    let h = host_memory::head(session);
     host_head::in_range(h.count, h.clock, h.end, h.hold, h.left, h.near)
 }
 
-fn lines(session: &[[u64; 21]; 33]) -> bool
+fn lines(session: &[[[u64; 16]; 2]; 33]) -> bool
     requires { ⌜ BesideIn (session-in (now session)) ⌝ }
     ensures { λ r. ⌜ Decides r (LinesIn (session-in (now (session .entry)))) ⌝ }
 {
-    host_memory::rows(session);
-    let top = session[32];
-    let h = reading::head(top);
+    let h = host_memory::head(session);
     let n = h.count;
     let mut i: usize = 0;
     while i < n {
-        let row = session[i];
-        let l = reading::line(row);
+        let l = host_memory::line_at(session, i);
         if !host_line::line(h.near, h.left, h.left, l) {
             return false;
         }
@@ -43,22 +37,20 @@ fn lines(session: &[[u64; 21]; 33]) -> bool
 }
 
 // No id twice, and no hold that is due by the clock.
-fn together(session: &[[u64; 21]; 33]) -> bool
+fn together(session: &[[[u64; 16]; 2]; 33]) -> bool
     requires { ⌜ BesideIn (session-in (now session)) × LinesIn (session-in (now session)) ⌝ }
     ensures { λ r. ⌜ Decides r (Distinct (session-ids (view (session-in (now (session .entry)))))
         × (next-due (session-in (now (session .entry)) .clock) (view (session-in (now (session .entry)))) ≡ Nothing)) ⌝ }
 {
-    host_memory::rows(session);
-    let top = session[32];
-    let h = reading::head(top);
+    host_memory::pairs(session);
+    let h = host_memory::head(session);
     let n = h.count;
     let mut ids: [u32; 32] = [0; 32];
     let mut best = Found::Nothing;
     for i in 0..n {
-        ids[i] = reading::word(session[i][0]);
-        let up = reading::hold(session[i][17], session[i][18]);
-        let down = reading::hold(session[i][19], session[i][20]);
-        best = due::passed(h.hold, i, Holds { up: up, down: down }, best);
+        ids[i] = host_memory::id_at(session, i);
+        let holds = host_memory::holds_at(session, i);
+        best = due::passed(h.hold, i, holds, best);
     }
     if !host_head::distinct(&ids[..n]) {
         return false;
@@ -69,10 +61,10 @@ fn together(session: &[[u64; 21]; 33]) -> bool
     }
 }
 
-pub fn sound(session: &[[u64; 21]; 33]) -> bool
+pub fn sound(session: &[[[u64; 16]; 2]; 33]) -> bool
     ensures { λ r. ⌜ Decides r (Valid (session-in (now (session .entry)))) ⌝ }
 {
-    host_memory::rows(session);
+    host_memory::pairs(session);
     if !beside(session) {
         return false;
     }

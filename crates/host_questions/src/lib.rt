@@ -14,7 +14,6 @@ ghost use Rattle.corridor.specs.View.{view, Valid};
 ghost use Rattle.questions.specs.Asked.{sought};
 ghost use Rattle.host_memory.specs.Memory.{session-in};
 ghost use Rattle.host_questions.specs.AskedNumbers.{told-into, place-number, report-into};
-use host_row::reading;
 use method::EventReason;
 use method::Line;
 use method::PlaceAnswer;
@@ -24,17 +23,15 @@ use numbers::Steps;
 use questions::Sought;
 
 // The line that has the id.
-fn found(session: &[[u64; 21]; 33], id: u32) -> Sought
+fn found(session: &[[[u64; 16]; 2]; 33], id: u32) -> Sought
     requires { ⌜ Valid (session-in (now session)) ⌝ }
     ensures { λ r. ⌜ r ≡ sought id (view (session-in (now (session .entry)))) ⌝ }
 {
-    let top = session[32];
-    let h = reading::head(top);
+    let h = host_memory::head(session);
     let n = h.count;
     let mut i: usize = 0;
     while i < n {
-        let row = session[i];
-        let l = reading::line(row);
+        let l = host_memory::line_at(session, i);
         if l.terms.id == id {
             return Sought::At(l);
         }
@@ -44,7 +41,7 @@ fn found(session: &[[u64; 21]; 33], id: u32) -> Sought
 }
 
 // The lower and the upper limit, and whether the lower one is frozen.
-pub fn limits(session: &[[u64; 21]; 33], id: u32, out: &mut [i64; 3]) -> i64
+pub fn limits(session: &[[[u64; 16]; 2]; 33], id: u32, out: &mut [i64; 3]) -> i64
     requires { ⌜ Valid (session-in (now session)) ⌝ }
     ensures { λ r. ⌜ r ≡ pos (limits-said (limits id (view (session-in (now (session .entry))))) .number) ⌝ }
     ensures { λ _. ⌜ now (out .exit) ≡ told-into (now (out .entry)) (limits-said (limits id (view (session-in (now (session .entry)))))) ⌝ }
@@ -74,7 +71,7 @@ fn place_number(answer: PlaceAnswer) -> i64
 }
 
 // Where an order price lies: below -1, inside 0, above 1; or the refusal's number.
-pub fn place(session: &[[u64; 21]; 33], id: u32, price: i64) -> i64
+pub fn place(session: &[[[u64; 16]; 2]; 33], id: u32, price: i64) -> i64
     requires { ⌜ Valid (session-in (now session)) ⌝ }
     ensures { λ r. ⌜ r ≡ place-number (place id (steps price) (view (session-in (now (session .entry))))) ⌝ }
 {
@@ -88,18 +85,17 @@ pub fn place(session: &[[u64; 21]; 33], id: u32, price: i64) -> i64
 }
 
 // What stands on a line, with the hold seconds, the shifts left and the clock of its session.
-fn reported(session: &[[u64; 21]; 33], l: Line) -> Report
+fn reported(session: &[[[u64; 16]; 2]; 33], l: Line) -> Report
     requires { ⌜ (session-in (now session) .hold .0 ≤ longest-hold) × Room (session-in (now session) .left) l ⌝ }
     ensures { λ r. ⌜ r ≡ line-report (session-in (now (session .entry)) .hold) (session-in (now (session .entry)) .left)
         (session-in (now (session .entry)) .clock) l ⌝ }
 {
-    let top = session[32];
-    let h = reading::head(top);
+    let h = host_memory::head(session);
     line_answers::line_report(h.hold, h.left, h.clock, l)
 }
 
 // All that stands on a line.
-pub fn report(session: &[[u64; 21]; 33], id: u32, out: &mut [[i64; 6]; 4]) -> i64
+pub fn report(session: &[[[u64; 16]; 2]; 33], id: u32, out: &mut [[i64; 6]; 4]) -> i64
     requires { ⌜ Valid (session-in (now session)) ⌝ }
     ensures { λ r. ⌜ r ≡ pos (report-said (report id (view (session-in (now (session .entry))))) .number) ⌝ }
     ensures { λ _. ⌜ now (out .exit) ≡ report-into (now (out .entry)) (report id (view (session-in (now (session .entry))))) ⌝ }

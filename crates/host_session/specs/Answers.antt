@@ -8,7 +8,7 @@ use Rattle.method.specs.told.Rows.{numbers-of}
 use Rattle.method.specs.declared.Row.the-variants as Row
 use Rattle.corridor.specs.declared.Reply.{Reply}
 use Rattle.corridor.specs.Engine.{reply-to}
-use Rattle.host_memory.specs.Memory.{session-in}
+use Rattle.host_memory.specs.Memory.{Memory, session-in}
 use Rattle.host_session.specs.Names.{TableAnswer, Session}
 
 -- ---- a table
@@ -19,14 +19,14 @@ line-said (TableAnswer.Refused why line) = pos line
 
 -- ---- an event
 -- the reply to the bytes b by the session that stands in the memory
-abbrev pub reply-in : List (List ℕ) → List ℕ → Reply
-reply-in rows b = reply-to (session-in rows) b
+abbrev pub reply-in : Memory → List ℕ → Reply
+reply-in memory b = reply-to (session-in memory) b
 
 -- its shift lines, as rows of numbers
 abbrev pub shift-rows : Reply → List ℤ
 shift-rows r = numbers-of (map Row.Shift (take (r .made) (r .shifts)))
 
 -- What an answer leaves in the memory: the session s; and where the answer is no 0, every number as it was.
-pub record Leaves (number : ℤ) (before after : List (List ℕ)) (s : Session) : Type 0 where
+pub record Leaves (number : ℤ) (before after : Memory) (s : Session) : Type 0 where
   pub session : session-in after ≡ s
   pub untouched : (number ≡ pos 0 → ⊥) → after ≡ before

@@ -18,10 +18,8 @@ ghost use Rattle.closing.specs.Closing.{closed, closed-into};
 ghost use Rattle.counting.specs.Counted.{number-in};
 ghost use Rattle.host_memory.specs.Memory.{session-in};
 ghost use Rattle.host_session.specs.Answers.{line-said, reply-in, shift-rows, Leaves};
-use host_row::reading;
 use method::Event;
 use method::EventAnswer;
-use method::Holds;
 use method::Quote;
 use method::Row;
 use method::TableAnswer;
@@ -30,7 +28,7 @@ use verdict::Change;
 use verdict::Verdict;
 
 // Opens a session. After a refused table the memory holds none: what it reads as is then not `Valid`.
-pub fn open(session: &mut [[u64; 21]; 33], table: &[u8], line: &mut i64) -> i64
+pub fn open(session: &mut [[[u64; 16]; 2]; 33], table: &[u8], line: &mut i64) -> i64
     ensures { λ r. ⌜ r ≡ pos (table-said (opened-session (opening (now (table .entry))) .answer) .number) ⌝ }
     ensures { λ _. ⌜ now (line .exit) ≡ line-said (opened-session (opening (now (table .entry))) .answer) ⌝ }
     ensures { λ _. ⌜ session-in (now (session .exit)) ≡ opened-session (opening (now (table .entry))) .session ⌝ }
@@ -54,7 +52,7 @@ pub fn open(session: &mut [[u64; 21]; 33], table: &[u8], line: &mut i64) -> i64
 
 // By way of the whole session, which is copied out of the memory and back into it.
 fn by_value(
-    session: &mut [[u64; 21]; 33],
+    session: &mut [[[u64; 16]; 2]; 33],
     bytes: &[u8],
     out: &mut [i64; 96],
     made: &mut usize,
@@ -90,22 +88,20 @@ pub struct Seen {
     pub quiet: Seconds,
 }
 
-fn looked(session: &[[u64; 21]; 33], e: Event) -> Seen
+fn looked(session: &[[[u64; 16]; 2]; 33], e: Event) -> Seen
     requires { ⌜ Valid (session-in (now session)) ⌝ }
     ensures { λ r. ⌜ r .verdict ≡ screened (session-ids (view (session-in (now (session .entry)))))
         (session-in (now (session .entry)) .end) (session-in (now (session .entry)) .clock) e ⌝ }
     ensures { λ r. ⌜ r .quiet ≡ quiet-until (view (session-in (now (session .entry)))) ⌝ }
 {
-    let top = session[32];
-    let h = reading::head(top);
+    let h = host_memory::head(session);
     let n = h.count;
     let mut ids: [u32; 32] = [0; 32];
     let mut quiet = Seconds(4294967295);
     for i in 0..n {
-        ids[i] = reading::word(session[i][0]);
-        let up = reading::hold(session[i][17], session[i][18]);
-        let down = reading::hold(session[i][19], session[i][20]);
-        quiet = due::until(quiet, h.hold, Holds { up: up, down: down });
+        ids[i] = host_memory::id_at(session, i);
+        let holds = host_memory::holds_at(session, i);
+        quiet = due::until(quiet, h.hold, holds);
     }
     let verdict = verdict::screen(&ids[..n], 0, h.end, h.clock, e);
     Seen {
@@ -115,24 +111,22 @@ fn looked(session: &[[u64; 21]; 33], e: Event) -> Seen
 }
 
 // A quote on the line at its place.
-fn quoted(session: &mut [[u64; 21]; 33], place: usize, q: Quote)
+fn quoted(session: &mut [[[u64; 16]; 2]; 33], place: usize, q: Quote)
     requires { ⌜ (place < 32) × Valid (session-in (now session))
         × JudgeableLine (session-in (now session) .near) (with-book (getD (session-in (now session) .lines) place blank) (q .bid) (q .ask)) ⌝ }
     ensures { λ _. ⌜ session-in (now (session .exit)) ≡ with-line (session-in (now (session .entry))) place
         (quoted-line (session-in (now (session .entry)) .near) (session-in (now (session .entry)) .left) q
         (getD (session-in (now (session .entry)) .lines) place blank)) ⌝ }
 {
-    let top = session[32];
-    let h = reading::head(top);
-    let row = session[place];
-    let l = reading::line(row);
+    let h = host_memory::head(session);
+    let l = host_memory::line_at(session, place);
     let m = shifts::quoted_line(h.near, h.left, q, l);
-    host_memory::with_line(session, place, m);
+    host_memory::with_quote(session, place, m);
 }
 
 // One event, where the session lies. Only where a hold falls due by its second is the session taken out of the memory.
 pub fn event(
-    session: &mut [[u64; 21]; 33],
+    session: &mut [[[u64; 16]; 2]; 33],
     bytes: &[u8],
     out: &mut [i64; 96],
     made: &mut usize,
@@ -173,7 +167,7 @@ pub fn event(
 }
 
 // A buffer of events. Where the room is not there, nothing is done.
-pub fn feed(session: &mut [[u64; 21]; 33], events: &[u8], out: &mut [i64]) -> usize
+pub fn feed(session: &mut [[[u64; 16]; 2]; 33], events: &[u8], out: &mut [i64]) -> usize
     requires { ⌜ Valid (session-in (now session)) ⌝ }
     ensures { λ r. ⌜ r ≡ number-in (fed (session-in (now (session .entry))) (length (now (out .entry))) (now (events .entry)) .answer) ⌝ }
     ensures { λ _. ⌜ now (out .exit) ≡ fed-into (session-in (now (session .entry))) (now (out .entry)) (now (events .entry)) ⌝ }
@@ -189,7 +183,7 @@ pub fn feed(session: &mut [[u64; 21]; 33], events: &[u8], out: &mut [i64]) -> us
 }
 
 // The closing rows. Where the room is not there, nothing is written.
-pub fn close(session: &[[u64; 21]; 33], out: &mut [i64]) -> usize
+pub fn close(session: &[[[u64; 16]; 2]; 33], out: &mut [i64]) -> usize
     requires { ⌜ Valid (session-in (now session)) ⌝ }
     ensures { λ r. ⌜ r ≡ number-in (closed (session-in (now (session .entry))) (length (now (out .entry)))) ⌝ }
     ensures { λ _. ⌜ now (out .exit) ≡ closed-into (session-in (now (session .entry))) (now (out .entry)) ⌝ }

@@ -3,8 +3,9 @@ use borrow.Author.Needs.{needs}
 use denote.Ref.{now}
 use Rattle.numbers.proofs.Deciding.{kept, broken, decides-same}
 use Rattle.host_memory.specs.Memory.{session-in}
+use Rattle.host_memory.proofs.Places.{full-in}
 use Rattle.host_intact.specs.Tests.{BesideIn, LinesIn}
-use Rattle.host_intact.proofs.Whole.{full-in, valid-so, valid-beside, valid-lines, valid-together}
+use Rattle.host_intact.proofs.Whole.{valid-so, valid-beside, valid-lines, valid-together}
 use Rattle.host_intact.proofs.sound.Statement.{statement}
 use Rattle.host_intact.proofs.sound.Tie as tie
 
@@ -14,8 +15,8 @@ beside-in c = kept (c .before .beside .result) (c .before .beside .ensures) (c .
 lines-in : (c : tie.Else2) → LinesIn (session-in (now (c .before .before .before .before .before .args .session)))
 lines-in c = kept (c .before .lines .result) (c .before .lines .ensures) (c .if2 .left)
 
-rows-requires : tie.Need-rows-requires
-rows-requires c κs = search needs
+pairs-requires : tie.Need-pairs-requires
+pairs-requires c κs = search needs
 
 beside-requires : tie.Need-beside-requires
 beside-requires c κs = search needs
@@ -34,14 +35,14 @@ together-requires c κs = (beside-in (c .before .before), lines-in c)
 
 returns-3 : tie.Need-returns-3
 returns-3 c =
-    let full = full-in _ (c .before .before .before .before .before .rows .ensures .1) in
+    let full = full-in _ (c .before .before .before .before .before .pairs .ensures .1) in
     decides-same (c .together .result) (valid-so full (beside-in (c .before .before .before)) (lines-in (c .before))) valid-together (c .together .ensures)
 
 pub sound-spec : {M : Type 1} → statement M
 sound-spec =
     tie.close
     (tie.spec
-    rows-requires
+    pairs-requires
     beside-requires
     returns
     lines-requires

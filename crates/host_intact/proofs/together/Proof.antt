@@ -1,14 +1,13 @@
 -- `host_intact::together` meets its contract. Assumes nothing.
 use borrow.Author.Needs.{needs}
 use mathlib.Core.Path.{_≡_, refl, sym, ap, subst, _∙_}
-use mathlib.Core.List.{List}
 use Prim.Native.Nat.{ℕ, _+_, _≤_, _<_, _-_}
 use native.Mathlib.Omega.{arith}
 use denote.Ref.{now}
-use lib.ListN.{length, getD, set, take}
+use lib.ListN.{length, set, take}
 use lib.Seq.{length-take-le}
 use Rattle.numbers.proofs.Deciding.{kept, broken}
-use Rattle.method.specs.words.Types.{blank, session-ids}
+use Rattle.method.specs.words.Types.{session-ids}
 use Rattle.method.specs.words.Ranges.{longest-hold}
 use Rattle.method.specs.computed.Search.{passed, earliest, in-time, next-due}
 use Rattle.method.specs.computed.Rooms.{HoldsIn}
@@ -20,8 +19,7 @@ use Rattle.corridor.specs.View.{view}
 use Rattle.corridor.proofs.Due.{Passed, passed-turn, passed-all}
 use Rattle.corridor.proofs.Gathered.{Gathered, gathered-none, gathered-turn, gathered-all}
 use Rattle.host_memory.specs.Memory.{session-of, session-in}
-use Rattle.host_memory.proofs.Places.{head-is, id-at, holds-at}
-use Rattle.host_intact.proofs.Whole.{full-in}
+use Rattle.host_memory.proofs.Places.{full-in}
 use Rattle.host_intact.proofs.together.Statement.{statement}
 use Rattle.host_intact.proofs.together.Tie as tie
 
@@ -36,22 +34,19 @@ abbrev μ-loop : tie.MeasureT-loop
 -- ---- the start, and what is known there
 module _ (c : tie.At-loop Inv-loop μ-loop) where
   abbrev start : tie.Start Inv-loop μ-loop
-  start = c .before .before .before .before
-
-  abbrev rows : List (List ℕ)
-  rows = now (start .args .session)
+  start = c .before .before .before
 
   abbrev given : Session
-  given = session-in rows
+  given = session-in (now (start .args .session))
 
   few : given .count ≤ 32
   few = start .pre .0 .few
 
   full : length (given .lines) ≡ 32
-  full = full-in rows (c .before .before .before .rows .ensures .1)
+  full = full-in _ (c .before .before .pairs .ensures .1)
 
   read : given ≡ session-of (given .lines) (c .before .head .result)
-  read = head-is rows (c .before .head .ensures)
+  read = c .before .head .ensures
 
   count-read : c .before .head .result .count ≡ given .count
   count-read = λ j. sym read j .count
@@ -63,19 +58,6 @@ module _ (c : tie.In-loop Inv-loop μ-loop) where
 
   within : c .before .loop .i < 32
   within = omega (arith, below, few (c .before))
-
--- the holds there
-module _ (c : tie.After-hold2 Inv-loop μ-loop) where
-  abbrev turn : tie.In-loop Inv-loop μ-loop
-  turn = c .before .before .before .before .before .before .before .before
-
-  abbrev at : tie.At-loop Inv-loop μ-loop
-  at = turn .before
-
-  holds-read : getD (given at .lines) (at .loop .i) blank .holds ≡ record { up = c .before .before .before .hold .result; down = c .hold2 .result }
-  holds-read =
-      holds-at (rows at) (at .loop .i) (full at) (within turn)
-      ∙ sym (λ j. record { up = c .before .before .before .hold .ensures j; down = c .hold2 .ensures j })
 
 -- ---- where all lines are passed
 module _ (c : tie.After-loop Inv-loop μ-loop) where
@@ -101,11 +83,8 @@ found c =
     let a : tie.At-loop Inv-loop μ-loop = c .before .before .before .before .before in
     (λ j. in-time (read a j .clock) (read a j .end) (read a j .left) (sym (first (c .before .before .before .before)) j)) ∙ sym (c .in-time .ensures)
 
-rows-requires : tie.Need-rows-requires Inv-loop μ-loop
-rows-requires c κs = search needs
-
-element-copy-out-top : tie.Need-element-copy-out-top Inv-loop μ-loop
-element-copy-out-top c = search needs
+pairs-requires : tie.Need-pairs-requires Inv-loop μ-loop
+pairs-requires c κs = search needs
 
 head-requires : tie.Need-head-requires Inv-loop μ-loop
 head-requires c κs = search needs
@@ -113,89 +92,41 @@ head-requires c κs = search needs
 loop-holds : tie.Need-loop-holds Inv-loop μ-loop
 loop-holds c = (omega arith, refl, gathered-none _)
 
-mul-word : tie.Need-mul-word Inv-loop μ-loop
-mul-word c = omega (arith, within c)
-
-index-1-word : tie.Need-index-1-word Inv-loop μ-loop
-index-1-word c = omega (arith, within c)
-
-index-2-word : tie.Need-index-2-word Inv-loop μ-loop
-index-2-word c = search needs
-
-word-requires : tie.Need-word-requires Inv-loop μ-loop
-word-requires c κs = search needs
+id-at-requires : tie.Need-id-at-requires Inv-loop μ-loop
+id-at-requires c κs = within c
 
 mul-ids : tie.Need-mul-ids Inv-loop μ-loop
-mul-ids c = omega (arith, within (c .before .before))
+mul-ids c = omega (arith, within (c .before))
 
 array-write-ids : tie.Need-array-write-ids Inv-loop μ-loop
-array-write-ids c = omega (arith, within (c .before .before))
+array-write-ids c = omega (arith, within (c .before))
 
-mul-hold : tie.Need-mul-hold Inv-loop μ-loop
-mul-hold c = omega (arith, within (c .before .before))
-
-index-1-hold : tie.Need-index-1-hold Inv-loop μ-loop
-index-1-hold c = omega (arith, within (c .before .before))
-
-index-2-hold : tie.Need-index-2-hold Inv-loop μ-loop
-index-2-hold c = search needs
-
-mul-hold-2 : tie.Need-mul-hold-2 Inv-loop μ-loop
-mul-hold-2 c = omega (arith, within (c .before .before .before))
-
-index-1-hold-2 : tie.Need-index-1-hold-2 Inv-loop μ-loop
-index-1-hold-2 c = omega (arith, within (c .before .before .before))
-
-index-2-hold-2 : tie.Need-index-2-hold-2 Inv-loop μ-loop
-index-2-hold-2 c = search needs
-
-hold-requires : tie.Need-hold-requires Inv-loop μ-loop
-hold-requires c κs = search needs
-
-mul-hold-3 : tie.Need-mul-hold-3 Inv-loop μ-loop
-mul-hold-3 c = omega (arith, within (c .before .before .before .before .before))
-
-index-1-hold-3 : tie.Need-index-1-hold-3 Inv-loop μ-loop
-index-1-hold-3 c = omega (arith, within (c .before .before .before .before .before))
-
-index-2-hold-3 : tie.Need-index-2-hold-3 Inv-loop μ-loop
-index-2-hold-3 c = search needs
-
-mul-hold-4 : tie.Need-mul-hold-4 Inv-loop μ-loop
-mul-hold-4 c = omega (arith, within (c .before .before .before .before .before .before))
-
-index-1-hold-4 : tie.Need-index-1-hold-4 Inv-loop μ-loop
-index-1-hold-4 c = omega (arith, within (c .before .before .before .before .before .before))
-
-index-2-hold-4 : tie.Need-index-2-hold-4 Inv-loop μ-loop
-index-2-hold-4 c = search needs
-
-hold-requires-2 : tie.Need-hold-requires-2 Inv-loop μ-loop
-hold-requires-2 c κs = search needs
+holds-at-requires : tie.Need-holds-at-requires Inv-loop μ-loop
+holds-at-requires c κs = within (c .before)
 
 passed-requires : tie.Need-passed-requires Inv-loop μ-loop
 passed-requires c κs =
-    let p = start (at c) .pre in
-    (subst HoldsIn (holds-read c) (p .1 (at c .loop .i) (below (turn c)) .0 .holds), subst (λ (z : Session). z .hold .0 ≤ longest-hold) (read (at c)) (p .0 .hold .most))
+    let turn : tie.In-loop Inv-loop μ-loop = c .before .before in
+    let a : tie.At-loop Inv-loop μ-loop = turn .before in
+    let p = start a .pre in
+    (subst HoldsIn (c .holds-at .ensures) (p .1 (a .loop .i) (below turn) .0 .holds), subst (λ (z : Session). z .hold .0 ≤ longest-hold) (read a) (p .0 .hold .most))
 
 add-i : tie.Need-add-i Inv-loop μ-loop
-add-i c = omega (arith, within (turn (c .before)))
+add-i c = omega (arith, within (c .before .before .before))
 
 loop-less : tie.Need-loop-less Inv-loop μ-loop
-loop-less c = omega (arith, below (turn (c .before)))
+loop-less c = omega (arith, below (c .before .before .before))
 
 loop-again : tie.Need-loop-again Inv-loop μ-loop
 loop-again c =
-    let a : tie.At-loop Inv-loop μ-loop = at (c .before) in
-    let z = given a in
-    let here = below (turn (c .before)) in
-    let inside = within (turn (c .before)) in (
-      omega (arith, here),
-      passed-turn (z .hold) (z .count) (z .lines) (a .loop .i) (a .loop .best) (c .passed .result) here (omega (arith, few a, full a))
-          (c .passed .ensures ∙ sym (λ j. passed (read a j .hold) (a .loop .i) (holds-read (c .before) j) (a .loop .best))) (a .loop .inv .1),
-      subst (λ (k : ℕ). Gathered (z .lines) (a .loop .i + 1) (set (a .loop .ids) (a .loop .i) k))
-          (id-at (rows a) (a .loop .i) (full a) inside ∙ sym (c .before .before .before .before .before .before .before .word .ensures))
-          (gathered-turn (z .lines) (a .loop .i) (a .loop .ids) (omega (arith, full a, inside)) inside (a .loop .inv .2)),
+    let turn : tie.In-loop Inv-loop μ-loop = c .before .before .before in
+    let a : tie.At-loop Inv-loop μ-loop = turn .before in
+    let z = given a in (
+      omega (arith, below turn),
+      passed-turn (z .hold) (z .count) (z .lines) (a .loop .i) (a .loop .best) (c .passed .result) (below turn) (omega (arith, few a, full a))
+          (c .passed .ensures ∙ sym (λ j. passed (read a j .hold) (a .loop .i) (c .before .holds-at .ensures j) (a .loop .best))) (a .loop .inv .1),
+      subst (λ (k : ℕ). Gathered (z .lines) (a .loop .i + 1) (set (a .loop .ids) (a .loop .i) k)) (c .before .before .id-at .ensures)
+          (gathered-turn (z .lines) (a .loop .i) (a .loop .ids) (omega (arith, full a, within turn)) (within turn) (a .loop .inv .2)),
     )
 
 array-share-prefix-ids : tie.Need-array-share-prefix-ids Inv-loop μ-loop
@@ -237,30 +168,13 @@ together-spec =
     (tie.spec
     Inv-loop
     μ-loop
-    rows-requires
-    element-copy-out-top
+    pairs-requires
     head-requires
     loop-holds
-    mul-word
-    index-1-word
-    index-2-word
-    word-requires
+    id-at-requires
     mul-ids
     array-write-ids
-    mul-hold
-    index-1-hold
-    index-2-hold
-    mul-hold-2
-    index-1-hold-2
-    index-2-hold-2
-    hold-requires
-    mul-hold-3
-    index-1-hold-3
-    index-2-hold-3
-    mul-hold-4
-    index-1-hold-4
-    index-2-hold-4
-    hold-requires-2
+    holds-at-requires
     passed-requires
     add-i
     loop-less

@@ -1,8 +1,7 @@
 -- `host_questions::found` meets its contract. Assumes nothing.
 use borrow.Author.Needs.{needs}
 use mathlib.Core.Path.{_≡_, ap, sym, _∙_}
-use mathlib.Core.List.{List}
-use Prim.Native.Nat.{ℕ, _<_, _-_}
+use Prim.Native.Nat.{_<_, _-_}
 use native.Mathlib.Omega.{arith}
 use denote.Ref.{now}
 use lib.ListN.{getD}
@@ -11,7 +10,6 @@ use Rattle.questions.specs.declared.Sought.{Sought}
 use Rattle.questions.proofs.Walking.{Walk, walk-start, walk-met, walk-turn, walk-all}
 use Rattle.questions.proofs.Asking.{sought-met, sought-unmet}
 use Rattle.host_memory.specs.Memory.{session-in}
-use Rattle.host_memory.proofs.Places.{head-is, line-at}
 use Rattle.host_questions.specs.Names.{Line, Session}
 use Rattle.host_questions.proofs.found.Statement.{statement}
 use Rattle.host_questions.proofs.found.Tie as tie
@@ -25,71 +23,55 @@ abbrev μ-loop : tie.MeasureT-loop
 -- ---- the start, and what is known there
 module _ (c : tie.At-loop Inv-loop μ-loop) where
   abbrev start : tie.Start Inv-loop μ-loop
-  start = c .before .before .before
-
-  abbrev rows : List (List ℕ)
-  rows = now (start .args .session)
+  start = c .before .before
 
   abbrev given : Session
-  given = session-in rows
+  given = session-in (now (start .args .session))
 
   count-read : c .before .head .result .count ≡ given .count
-  count-read = λ j. sym (head-is rows (c .before .head .ensures)) j .count
+  count-read = λ j. sym (c .before .head .ensures) j .count
 
--- the line that is read at the place i
-module _ (c : tie.After-line Inv-loop μ-loop) where
-  abbrev at : tie.At-loop Inv-loop μ-loop
-  at = c .before .before .before
+-- the place i
+module _ (c : tie.In-loop Inv-loop μ-loop) where
+  below : c .before .loop .i < given (c .before) .count
+  below = omega (arith, count-read (c .before), c .loop-test .taken)
 
-  below : at .loop .i < given at .count
-  below = omega (arith, count-read at, c .before .before .loop-test .taken)
+  within : c .before .loop .i < 32
+  within = omega (arith, below, start (c .before) .pre .few)
 
-  read-line : c .line .result ≡ getD (given at .lines) (at .loop .i) blank
-  read-line =
-      let v = start at .pre in
-      c .line .ensures ∙ sym (line-at (rows at) (at .loop .i) (v .full) (omega (arith, below, v .few)))
-
-  read-id : c .line .result .terms .id ≡ getD (given at .lines) (at .loop .i) blank .terms .id
-  read-id = ap (λ (l : Line). l .terms .id) read-line
-
-element-copy-out-top : tie.Need-element-copy-out-top Inv-loop μ-loop
-element-copy-out-top c = search needs
+-- the id of the line that is read there
+id-read : (c : tie.After-line-at Inv-loop μ-loop) → getD (given (c .before .before) .lines) (c .before .before .loop .i) blank .terms .id ≡ c .line-at .result .terms .id
+id-read c = ap (λ (l : Line). l .terms .id) (c .line-at .ensures)
 
 head-requires : tie.Need-head-requires Inv-loop μ-loop
 head-requires c κs = search needs
 
 loop-holds : tie.Need-loop-holds Inv-loop μ-loop
-loop-holds c = walk-start _ (c .before .before .args .id)
+loop-holds c = walk-start _ (c .before .args .id)
 
-mul-row : tie.Need-mul-row Inv-loop μ-loop
-mul-row c = omega (arith, count-read (c .before), start (c .before) .pre .few)
-
-element-copy-out-row : tie.Need-element-copy-out-row Inv-loop μ-loop
-element-copy-out-row c = omega (arith, count-read (c .before), start (c .before) .pre .few)
-
-line-requires : tie.Need-line-requires Inv-loop μ-loop
-line-requires c κs = search needs
+line-at-requires : tie.Need-line-at-requires Inv-loop μ-loop
+line-at-requires c κs = within c
 
 returns : tie.Need-returns Inv-loop μ-loop
 returns c =
-    let l = c .before .before in
-    let a : tie.At-loop Inv-loop μ-loop = at l in
+    let l : tie.After-line-at Inv-loop μ-loop = c .before .before in
+    let a : tie.At-loop Inv-loop μ-loop = l .before .before in
     let s = start a in
-    ap Sought.At (read-line l)
-    ∙ sought-met (given a) (s .args .id) (a .loop .i) (s .pre) (walk-met (given a) (s .args .id) (a .loop .i) (s .pre) (a .loop .inv) (below l) (sym (read-id l) ∙ c .if1 .taken))
+    ap Sought.At (sym (l .line-at .ensures))
+    ∙ sought-met (given a) (s .args .id) (a .loop .i) (s .pre) (walk-met (given a) (s .args .id) (a .loop .i) (s .pre) (a .loop .inv) (below (l .before)) (id-read l ∙ c .if1 .taken))
 
 add-i : tie.Need-add-i Inv-loop μ-loop
-add-i c = omega (arith, below (c .before .before), start (at (c .before .before)) .pre .few)
+add-i c = omega (arith, within (c .before .before .before))
 
 loop-less : tie.Need-loop-less Inv-loop μ-loop
-loop-less c = omega (arith, below (c .before .before))
+loop-less c = omega (arith, below (c .before .before .before))
 
 loop-again : tie.Need-loop-again Inv-loop μ-loop
 loop-again c =
-    let l = c .before .before in
-    let a : tie.At-loop Inv-loop μ-loop = at l in
+    let l : tie.After-line-at Inv-loop μ-loop = c .before .before in
+    let a : tie.At-loop Inv-loop μ-loop = l .before .before in
     let s = start a in
-    walk-turn (given a) (s .args .id) (a .loop .i) (s .pre) (a .loop .inv) (below l) (λ q. c .if1 .left (read-id l ∙ q))
+    walk-turn (given a) (s .args .id) (a .loop .i) (s .pre) (a .loop .inv) (below (l .before)) (λ q. c .if1 .left (sym (id-read l) ∙ q))
 
 returns-2 : tie.Need-returns-2 Inv-loop μ-loop
 returns-2 c =
@@ -103,12 +85,9 @@ found-spec =
     (tie.spec
     Inv-loop
     μ-loop
-    element-copy-out-top
     head-requires
     loop-holds
-    mul-row
-    element-copy-out-row
-    line-requires
+    line-at-requires
     returns
     add-i
     loop-less

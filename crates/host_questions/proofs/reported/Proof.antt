@@ -8,12 +8,8 @@ use Rattle.method.specs.told.Report.{line-report}
 use Rattle.method.specs.computed.Rooms.{Room}
 use Rattle.host_questions.specs.Names.{Session}
 use Rattle.host_memory.specs.Memory.{session-of, session-in}
-use Rattle.host_memory.proofs.Places.{head-is}
 use Rattle.host_questions.proofs.reported.Statement.{statement}
 use Rattle.host_questions.proofs.reported.Tie as tie
-
-element-copy-out-top : tie.Need-element-copy-out-top
-element-copy-out-top c = search needs
 
 head-requires : tie.Need-head-requires
 head-requires c κs = search needs
@@ -21,13 +17,13 @@ head-requires c κs = search needs
 -- what is read of the memory
 module _ (c : tie.After-head) where
   abbrev start : tie.Start
-  start = c .before .before
+  start = c .before
 
   abbrev entry : Session
   entry = session-in (now (start .args .session))
 
   read : entry ≡ session-of (entry .lines) (c .head .result)
-  read = head-is (now (start .args .session)) (c .head .ensures)
+  read = c .head .ensures
 
 line-report-requires : tie.Need-line-report-requires
 line-report-requires c κs = subst (λ (z : Session). (z .hold .0 ≤ longest-hold) × Room (z .left) (start c .args .l)) (read c) (start c .pre)
@@ -39,4 +35,4 @@ returns c =
 
 pub reported-spec : {M : Type 1} → statement M
 reported-spec =
-    tie.close (tie.spec element-copy-out-top head-requires line-report-requires returns)
+    tie.close (tie.spec head-requires line-report-requires returns)

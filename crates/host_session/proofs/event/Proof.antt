@@ -15,7 +15,7 @@ use Rattle.corridor.specs.View.{view}
 use Rattle.corridor.proofs.Saying.{Changes, Says, Takes, session-says}
 use Rattle.corridor.proofs.Events.{refused-is, handed}
 use Rattle.host_session.specs.Names.{Session}
-use Rattle.host_memory.specs.Memory.{session-in}
+use Rattle.host_memory.specs.Memory.{Memory, session-in}
 use Rattle.host_session.specs.Answers.{reply-in, shift-rows}
 use Rattle.host_session.proofs.Replies.{event-told, event-taken}
 use Rattle.host_session.proofs.Turns.{nothing-due, unserved, quote-goes, reply-quiet}
@@ -26,7 +26,7 @@ use Rattle.host_session.proofs.event.Tie as tie
 abbrev start : tie.After-looked → tie.Start
 start c = c .before .before .before .before
 
-abbrev memory : tie.After-looked → List (List ℕ)
+abbrev memory : tie.After-looked → Memory
 memory c = now (start c .args .session)
 
 abbrev given : tie.After-looked → Session
