@@ -38,8 +38,8 @@
 extern "C" {
 #endif
 
-/* How many numbers a session takes: 33 rows of 21. `sundewcup_session_numbers` says the library's own count. */
-#define SUNDEWCUP_SESSION_NUMBERS 693
+/* How many numbers a session takes: 33 pairs of rows of 16. `sundewcup_session_numbers` says the library's own count. */
+#define SUNDEWCUP_SESSION_NUMBERS 1056
 /* The answer to a damaged session, and that of `sundewcup_feed` and `sundewcup_close`, which is more than any buffer has. */
 #define SUNDEWCUP_DAMAGED 99
 #define SUNDEWCUP_DAMAGED_COUNT SIZE_MAX

@@ -409,14 +409,14 @@ static void take_unfilled(void)
 static size_t opened_sessions;
 static size_t damaged_sessions;
 
-/* One number of the first line or of the last row is changed; the rows of no contract say nothing. Where that makes another
-   sound session it has to go on as one. */
+/* One number of the first line's two rows or of the head's is changed, whatever it means; the rows of no contract say nothing. Where
+   that makes another sound session, or says nothing, it has to go on as one. */
 static void damage(sundewcup_session *session, uint64_t number)
 {
     static const uint8_t event[EVENT_BYTES] = {[0] = 1, [8] = 4};
     Random random = {number};
-    size_t among = (size_t)between(&random, 0, 26);
-    size_t place = among < 21 ? among : 32 * 21 + among - 21;
+    size_t among = (size_t)between(&random, 0, 47);
+    size_t place = among < 32 ? among : 32 * 32 + among - 32;
     uint64_t with[] = {0, 1, session->opaque[place] + 1, session->opaque[place] ^ 2, UINT64_MAX, (uint64_t)between(&random, 0, 1 << 30)};
     session->opaque[place] = with[between(&random, 0, sizeof with / sizeof with[0] - 1)];
     if (sundewcup_check(session) == 0) {

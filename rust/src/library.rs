@@ -1,7 +1,7 @@
 //! The functions of libhost.a, as include/sundewcup_host.h has them. Nothing else in this package is `unsafe`.
 
 /// Numbers of a session, and of all shift rows of one event.
-pub const SESSION_NUMBERS: usize = 693;
+pub const SESSION_NUMBERS: usize = 1056;
 pub const SHIFT_NUMBERS: usize = 96;
 pub const REPORT_NUMBERS: usize = 24;
 
