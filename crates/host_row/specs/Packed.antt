@@ -38,7 +38,6 @@ terms-in r =
     record {
       id = word-in (at r 0);
       flags = word-in (at r 1);
-      negative = mark-in (at r 9);
       halfmove = steps (signed-in (at r 2));
       factors = record { up = billionths (at r 3); down = billionths (at r 4) };
     }

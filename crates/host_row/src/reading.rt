@@ -73,11 +73,9 @@ pub fn id(row: &[u64; 16]) -> u32
 fn terms(row: &[u64; 16]) -> Terms
     ensures { λ r. ⌜ r ≡ terms-in (now (row .entry)) ⌝ }
 {
-    let negative = mark(row[9]);
     Terms {
         id: word(row[0]),
         flags: word(row[1]),
-        negative: negative,
         halfmove: signed(row[2]),
         factors: Factors {
             up: Billionths(row[3]),

@@ -75,7 +75,6 @@ fn hold_numbers(h: Hold) -> Two
 fn drawn_row(terms: Terms, market: Market) -> [u64; 16]
     ensures { λ r. ⌜ (terms-in r ≡ terms) × (market-in r ≡ market) ⌝ }
 {
-    let negative = mark_number(terms.negative);
     let halfmove = terms.halfmove;
     let centre = market.centre;
     let half1 = market.half1;
@@ -91,7 +90,7 @@ fn drawn_row(terms: Terms, market: Market) -> [u64; 16]
         signed_number(half1),
         signed_number(half2),
         signed_number(half3),
-        negative,
+        0,
         0,
         0,
         0,

@@ -62,6 +62,7 @@ across-zero side j k a b = ≤ℤ-trans low high
   where
     low : interest side j (negsuc a) ≤ℤ pos 0
     low = subst (λ (z : ℤ). interest side j (negsuc a) ≤ℤ z) (at-zero side j) (interest-mono side j (omega zarith))
+
     high : pos 0 ≤ℤ interest side k (pos b)
     high = subst (λ (z : ℤ). z ≤ℤ interest side k (pos b)) (at-zero side k) (interest-mono side k (omega zarith))
 

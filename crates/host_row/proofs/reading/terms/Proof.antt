@@ -5,12 +5,6 @@ use Rattle.host_row.specs.Packed.{terms-in}
 use Rattle.host_row.proofs.reading.terms.Statement.{statement}
 use Rattle.host_row.proofs.reading.terms.Tie as tie
 
-element-copy-out-mark : tie.Need-element-copy-out-mark
-element-copy-out-mark c = search needs
-
-mark-requires : tie.Need-mark-requires
-mark-requires c κs = search needs
-
 element-copy-out-word : tie.Need-element-copy-out-word
 element-copy-out-word c = search needs
 
@@ -29,11 +23,11 @@ element-copy-out-signed c = search needs
 signed-requires : tie.Need-signed-requires
 signed-requires c κs = search needs
 
-element-copy-out-t19 : tie.Need-element-copy-out-t19
-element-copy-out-t19 c = search needs
+element-copy-out-t16 : tie.Need-element-copy-out-t16
+element-copy-out-t16 c = search needs
 
-element-copy-out-t23 : tie.Need-element-copy-out-t23
-element-copy-out-t23 c = search needs
+element-copy-out-t20 : tie.Need-element-copy-out-t20
+element-copy-out-t20 c = search needs
 
 returns : tie.Need-returns
 unfolding terms-in
@@ -41,23 +35,20 @@ returns c = λ i.
     record {
       id = c .before .before .before .before .before .before .word .ensures i;
       flags = c .before .before .before .before .word2 .ensures i;
-      negative = c .before .before .before .before .before .before .before .before .mark .ensures i;
       halfmove = c .before .before .signed .ensures i;
-      factors = terms-in (now (c .before .before .before .before .before .before .before .before .before .before .args .row)) .factors;
+      factors = terms-in (now (c .before .before .before .before .before .before .before .before .args .row)) .factors;
     }
 
 pub terms-spec : {M : Type 1} → statement M
 terms-spec =
     tie.close
     (tie.spec
-    element-copy-out-mark
-    mark-requires
     element-copy-out-word
     word-requires
     element-copy-out-word-2
     word-requires-2
     element-copy-out-signed
     signed-requires
-    element-copy-out-t19
-    element-copy-out-t23
+    element-copy-out-t16
+    element-copy-out-t20
     returns)

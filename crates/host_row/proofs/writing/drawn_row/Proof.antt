@@ -5,9 +5,6 @@ use Rattle.host_row.specs.Packed.{terms-in, market-in}
 use Rattle.host_row.proofs.writing.drawn_row.Statement.{statement}
 use Rattle.host_row.proofs.writing.drawn_row.Tie as tie
 
-mark-number-requires : tie.Need-mark-number-requires
-mark-number-requires c κs = search needs
-
 word-number-requires : tie.Need-word-number-requires
 word-number-requires c κs = search needs
 
@@ -36,9 +33,8 @@ returns c = (
       record {
         id = c .before .before .before .before .before .before .word-number .ensures i;
         flags = c .before .before .before .before .before .word-number2 .ensures i;
-        negative = c .before .before .before .before .before .before .before .before .before .before .before .before .mark-number .ensures i;
         halfmove = steps (c .before .before .before .before .signed-number .ensures i);
-        factors = c .before .before .before .before .before .before .before .before .before .before .before .before .before .args .terms .factors;
+        factors = c .before .before .before .before .before .before .before .before .before .before .before .before .args .terms .factors;
       },
   λ i.
       record {
@@ -53,7 +49,6 @@ pub drawn-row-spec : {M : Type 1} → statement M
 drawn-row-spec =
     tie.close
     (tie.spec
-    mark-number-requires
     word-number-requires
     word-number-requires-2
     signed-number-requires
