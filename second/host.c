@@ -409,14 +409,25 @@ static void take_unfilled(void)
 static size_t opened_sessions;
 static size_t damaged_sessions;
 
-/* One number of the first line's two rows or of the head's is changed, whatever it means; the rows of no contract say nothing. Where
-   that makes another sound session, or says nothing, it has to go on as one. */
+/* A number of the first line's two rows or of the head's, whatever it means; the rows of no contract say nothing. Of those
+   that are 0 most are passed over, since few of them mean anything. */
+static size_t choose_number(Random *random, const sundewcup_session *session)
+{
+    for (;;) {
+        size_t among = (size_t)between(random, 0, 47);
+        size_t place = among < 32 ? among : 32 * 32 + among - 32;
+        if (session->opaque[place] != 0 || chance(random, 20)) {
+            return place;
+        }
+    }
+}
+
+/* One number is changed. Where that makes another sound session, or says nothing, it has to go on as one. */
 static void damage(sundewcup_session *session, uint64_t number)
 {
     static const uint8_t event[EVENT_BYTES] = {[0] = 1, [8] = 4};
     Random random = {number};
-    size_t among = (size_t)between(&random, 0, 47);
-    size_t place = among < 32 ? among : 32 * 32 + among - 32;
+    size_t place = choose_number(&random, session);
     uint64_t with[] = {0, 1, session->opaque[place] + 1, session->opaque[place] ^ 2, UINT64_MAX, (uint64_t)between(&random, 0, 1 << 30)};
     session->opaque[place] = with[between(&random, 0, sizeof with / sizeof with[0] - 1)];
     if (sundewcup_check(session) == 0) {
