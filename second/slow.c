@@ -3,6 +3,7 @@
  */
 #include "slow.h"
 
+static const int64_t BILLION = 1000000000;
 static const uint32_t NO_HOLD = UINT32_MAX;
 
 void slow_open(SlowSession *slow, const Session *opening)
@@ -18,13 +19,12 @@ void slow_open(SlowSession *slow, const Session *opening)
    farther out, since the up factor is never under one and the down factor never above it. */
 static Bounds farther_out(const Line *line, int64_t lower_market, int64_t upper_market)
 {
-    static const int64_t billion = 1000000000;
     int64_t up = line->up_factor.billionths;
     int64_t down = line->down_factor.billionths;
-    int64_t lower_by_up = floor_division(lower_market * up, billion);
-    int64_t lower_by_down = floor_division(lower_market * down, billion);
-    int64_t upper_by_up = ceiling_division(upper_market * up, billion);
-    int64_t upper_by_down = ceiling_division(upper_market * down, billion);
+    int64_t lower_by_up = floor_division(lower_market * up, BILLION);
+    int64_t lower_by_down = floor_division(lower_market * down, BILLION);
+    int64_t upper_by_up = ceiling_division(upper_market * up, BILLION);
+    int64_t upper_by_down = ceiling_division(upper_market * down, BILLION);
     return (Bounds){
         .lower = {lower_by_up < lower_by_down ? lower_by_up : lower_by_down},
         .upper = {upper_by_up > upper_by_down ? upper_by_up : upper_by_down},
