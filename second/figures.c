@@ -427,11 +427,11 @@ static void figures_of_shifts_with_growth(void)
 {
     TableDraft draft = sample_with_growth(-10, 100, 500000, FLAG_WATCHED | FLAG_PERMITS_NEGATIVE);
     Course course = started(&draft);
-    check_events("up around zero", &course, "61 U 7\n", EVENTS(draft_bid(1, 7, 41), draft_tick(61)));
+    check_events("up around zero", &course, "61 U 7\n", EVENTS(draft_bid(1, 7, 45), draft_tick(61)));
     check_number("a positive centre", course.session.lines[0].centre.steps, 15);
     check_interest("bounds after up", &course, 7, -122, 155);
     check_limits("limits after up", &course, 7, -65, 100);
-    check_events("up and down around zero", &course, "122 D 7\n", EVENTS(draft_ask(62, 7, -61), draft_tick(122)));
+    check_events("up and down around zero", &course, "122 D 7\n", EVENTS(draft_ask(62, 7, -65), draft_tick(122)));
     check_number("a negative centre", course.session.lines[0].centre.steps, -10);
     check_interest("bounds after up and down", &course, 7, -177, 155);
     check_limits("limits after up and down", &course, 7, -120, 100);
@@ -624,7 +624,7 @@ static void readings_of_caps(void)
     check_table_refused("A1 exponent over the cap", &draft, REFUSED_EXPONENT, 1);
 
     /* Market bounds 40 and -20: 44.2.. and -22.1.., so 45 and -23. Half is 34, so the lower limit is -24, beyond its
-       bound. From share 970,589 on half is 33 and the lower limit lies on its bound; below that it is 32. */
+       bound. From share 970,589 up to 999,999 half is 33 and the lower limit lies on its bound; below that half is 32. */
     draft = sample_with_growth(10, 30, 1000000, FLAG_WATCHED);
     check_table_refused("A2 9 before the floor", &draft, REFUSED_LIMITS, 1);
     draft.contracts[0][CONTRACT_WIDTH_SHARE] = 970589;
@@ -1016,21 +1016,21 @@ static void figures_of_levels(void)
  */
 static void figures_near_zero(void)
 {
-    static const struct { int32_t price; const char *answer; } openings[] = {
-        {0, "7 -55 55 -111 111\n"},
-        {10, "7 -45 65 -100 122\n"},
-        {-99, "7 -154 -44 -220 2\n"},
-        {-100, "7 -155 -45 -222 0\n"},
-        {-101, "7 -156 -46 -223 0\n"},
-        {-150, "7 -208 -92 -277 -45\n"},
-        {99, "7 44 154 -2 220\n"},
-        {100, "7 45 155 0 222\n"},
-        {101, "7 46 156 0 223\n"},
-        {150, "7 92 208 45 277\n"},
+    static const struct { const char *name; int32_t price; const char *answer; } openings[] = {
+        {"near zero, P 0", 0, "7 -55 55 -111 111\n"},
+        {"near zero, P 10", 10, "7 -45 65 -100 122\n"},
+        {"near zero, P -99", -99, "7 -154 -44 -220 2\n"},
+        {"near zero, P -100", -100, "7 -155 -45 -222 0\n"},
+        {"near zero, P -101", -101, "7 -156 -46 -223 0\n"},
+        {"near zero, P -150", -150, "7 -208 -92 -277 -45\n"},
+        {"near zero, P 99", 99, "7 44 154 -2 220\n"},
+        {"near zero, P 100", 100, "7 45 155 0 222\n"},
+        {"near zero, P 101", 101, "7 46 156 0 223\n"},
+        {"near zero, P 150", 150, "7 92 208 45 277\n"},
     };
     for (size_t i = 0; i < sizeof openings / sizeof openings[0]; i++) {
         TableDraft draft = sample_with_growth(openings[i].price, 100, 500000, FLAG_WATCHED | FLAG_PERMITS_NEGATIVE);
-        check_program("near zero", &draft, 0, openings[i].answer, NULL, 0);
+        check_program(openings[i].name, &draft, 0, openings[i].answer, NULL, 0);
     }
     /* Without negative prices the same bounds, and the lower limit is lifted. */
     TableDraft draft = sample_with_growth(10, 100, 500000, FLAG_WATCHED);
@@ -1070,7 +1070,7 @@ static void figures_across_zero_upward(void)
     draft = sample_near_zero(-150, 25, flags);
     check_program("upward, at zero", &draft, 0, "70 U 7\n7 -208 -47 -277 0\n",
                   EVENTS(draft_bid(10, 7, -2), draft_tick(70)));
-    check_program("upward, over zero", &draft, 0, "70 U 7\n130 U 7\n7 -208 9 -277 56\n",
+    check_program("upward, across zero by way of 0", &draft, 0, "70 U 7\n130 U 7\n7 -208 9 -277 56\n",
                   EVENTS(draft_bid(10, 7, -2), draft_tick(1000)));
     /* The third shift carries 50 to 100: 110.5.. up to 111, and the limit rises by 55. */
     check_program("upward, on above zero", &draft, 0, "70 U 7\n130 U 7\n190 U 7\n7 -208 64 -277 111\n",
@@ -1097,7 +1097,7 @@ static void figures_across_zero_downward(void)
     draft = sample_near_zero(150, 25, flags);
     check_program("downward, at zero", &draft, 0, "70 D 7\n7 47 208 0 277\n",
                   EVENTS(draft_ask(10, 7, 2), draft_tick(70)));
-    check_program("downward, over zero", &draft, 0, "70 D 7\n130 D 7\n7 -9 208 -56 277\n",
+    check_program("downward, across zero by way of 0", &draft, 0, "70 D 7\n130 D 7\n7 -9 208 -56 277\n",
                   EVENTS(draft_ask(10, 7, 2), draft_tick(1000)));
     check_program("downward, on below zero", &draft, 0, "70 D 7\n130 D 7\n190 D 7\n7 -64 208 -111 277\n",
                   EVENTS(draft_ask(10, 7, 1), draft_tick(1000)));
