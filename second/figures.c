@@ -71,14 +71,22 @@ static Text whole_text(const uint8_t *bytes, size_t length)
 
 /* ---- Tables ---- */
 
+/* Adds a contract like the first one, under another id, and gives its fields. */
+static uint32_t *add_contract(TableDraft *draft, uint32_t id)
+{
+    uint32_t *contract = draft->contracts[draft->contract_count];
+    memcpy(contract, draft->contracts[0], sizeof draft->contracts[0]);
+    contract[CONTRACT_ID] = id;
+    draft_counts(draft, draft->key_count, draft->contract_count + 1);
+    return contract;
+}
+
 /* The sample with a second contract 8 alike and 16 shifts. */
 static TableDraft sample_of_two(void)
 {
     TableDraft draft = sample();
-    memcpy(draft.contracts[1], draft.contracts[0], sizeof draft.contracts[0]);
-    draft.contracts[1][CONTRACT_ID] = 8;
+    add_contract(&draft, 8);
     draft.header[HEADER_MOST_SHIFTS] = 16;
-    draft_counts(&draft, 1, 2);
     return draft;
 }
 
@@ -585,12 +593,12 @@ static void figures_of_many_ids(void)
     TableDraft draft = sample();
     EventDraft events[2 * MOST_LINES];
     Text refusals = {""};
-    draft_counts(&draft, 1, MOST_LINES);
+    draft.contracts[0][CONTRACT_ID] = 1;
+    for (uint32_t i = 1; i < MOST_LINES; i++) {
+        add_contract(&draft, 1 + 65536 * i)[CONTRACT_SETTLEMENT] = 1000 + i;
+    }
     for (uint32_t i = 0; i < MOST_LINES; i++) {
         uint32_t id = 1 + 65536 * i;
-        memcpy(draft.contracts[i], draft.contracts[0], sizeof draft.contracts[0]);
-        draft.contracts[i][CONTRACT_SETTLEMENT] = 1000 + i;
-        draft.contracts[i][CONTRACT_ID] = id;
         events[2 * i] = draft_empty(0, id);
         events[2 * i + 1] = draft_empty(0, id + 1);
         add_to(&refusals, "R 13\n");
@@ -1138,12 +1146,10 @@ static void figures_across_zero_downward(void)
 static void figures_of_all_signs(void)
 {
     static const int32_t prices[] = {-1000, -150, 0, 150, 1000};
-    TableDraft draft = sample_near_zero(0, 50, FLAG_PERMITS_NEGATIVE);
-    draft_counts(&draft, 1, 5);
-    for (uint32_t i = 0; i < 5; i++) {
-        memcpy(draft.contracts[i], draft.contracts[0], sizeof draft.contracts[0]);
-        draft.contracts[i][CONTRACT_SETTLEMENT] = (uint32_t)prices[i];
-        draft.contracts[i][CONTRACT_ID] = 6 + i;
+    TableDraft draft = sample_near_zero(prices[0], 50, FLAG_PERMITS_NEGATIVE);
+    draft.contracts[0][CONTRACT_ID] = 6;
+    for (uint32_t i = 1; i < 5; i++) {
+        add_contract(&draft, 6 + i)[CONTRACT_SETTLEMENT] = (uint32_t)prices[i];
     }
     draft.contracts[2][CONTRACT_FLAGS] |= FLAG_WATCHED;
     check_program("all signs", &draft, 0,
@@ -1224,10 +1230,7 @@ static void figures_of_cap(void)
 
     /* Contract 7 at the cap, and on line 2 contract 8 above it; with a day less its product is 182,393,960. */
     draft = sample_with_keys(1721, 106043, 3650, 50000, 3650);
-    draft_counts(&draft, 2, 2);
-    memcpy(draft.contracts[1], draft.contracts[0], sizeof draft.contracts[0]);
-    draft.contracts[1][CONTRACT_ID] = 8;
-    draft.contracts[1][CONTRACT_DAYS_LEFT] = 1721;
+    add_contract(&draft, 8)[CONTRACT_DAYS_LEFT] = 1721;
     check_table_refused("above the cap on line 2", &draft, REFUSED_EXPONENT, 2);
     draft.contracts[1][CONTRACT_DAYS_LEFT] = 1720;
     check_program("a day less", &draft, 0, "7 683 1317 545 1814\n8 683 1317 546 1814\n", NULL, 0);
