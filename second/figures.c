@@ -1223,27 +1223,35 @@ static void figures_of_cap(void)
     draft.contracts[0][CONTRACT_SETTLEMENT] = 0;
     check_program("at the cap around zero", &draft, 0, "7 -41218032 41218032 -82436064 82436064\n", NULL, 0);
 
-    draft = sample_with_keys(731, 249658, 0, 0, 731);
-    check_program("nearest under the cap", &draft, 0, "7 683 1317 545 1814\n", NULL, 0);
-    draft = sample_with_keys(1721, 106043, 0, 0, 1721);
-    check_table_refused("nearest above the cap", &draft, REFUSED_EXPONENT, 1);
-
     /* Contract 7 at the cap, and on line 2 contract 8 above it; with a day less its product is 182,393,960. */
     draft = sample_with_keys(1721, 106043, 3650, 50000, 3650);
     add_contract(&draft, 8)[CONTRACT_DAYS_LEFT] = 1721;
     check_table_refused("above the cap on line 2", &draft, REFUSED_EXPONENT, 2);
     draft.contracts[1][CONTRACT_DAYS_LEFT] = 1720;
     check_program("a day less", &draft, 0, "7 683 1317 545 1814\n8 683 1317 546 1814\n", NULL, 0);
+}
 
-    /* Half-way between two keys on a falling curve, where a rate is rounded down and not toward the first key's. */
-    draft = sample_with_keys(3124, 58401, 3126, 58400, 3125);
-    check_program("58,400 between keys, the cap", &draft, 0, "7 683 1317 545 1814\n", NULL, 0);
-    draft = sample_with_keys(3124, 58401, 3126, 58401, 3125);
-    check_table_refused("58,401 between keys", &draft, REFUSED_EXPONENT, 1);
-    draft = sample_with_keys(1720, 106044, 1722, 106041, 1721);
-    check_program("106,042 between keys", &draft, 0, "7 683 1317 545 1814\n", NULL, 0);
-    draft = sample_with_keys(1720, 106044, 1722, 106042, 1721);
-    check_table_refused("106,043 between keys, the nearest above", &draft, REFUSED_EXPONENT, 1);
+/* The last four lie half-way between two keys on a falling curve, where a rate is rounded down and not toward the first
+   key's. */
+static void figures_beside_cap(void)
+{
+    static const struct {
+        const char *name;
+        uint32_t days, rate, second_days, second_rate, days_left;
+        const char *answer;
+    } tables[] = {
+        {"nearest under the cap", 731, 249658, 0, 0, 731, "7 683 1317 545 1814\n"},
+        {"nearest above the cap", 1721, 106043, 0, 0, 1721, "T 7 1\n"},
+        {"58,400 between keys, the cap", 3124, 58401, 3126, 58400, 3125, "7 683 1317 545 1814\n"},
+        {"58,401 between keys", 3124, 58401, 3126, 58401, 3125, "T 7 1\n"},
+        {"106,042 between keys", 1720, 106044, 1722, 106041, 1721, "7 683 1317 545 1814\n"},
+        {"106,043 between keys, the nearest above", 1720, 106044, 1722, 106042, 1721, "T 7 1\n"},
+    };
+    for (size_t i = 0; i < sizeof tables / sizeof tables[0]; i++) {
+        TableDraft draft = sample_with_keys(tables[i].days, tables[i].rate, tables[i].second_days,
+                                            tables[i].second_rate, tables[i].days_left);
+        check_program(tables[i].name, &draft, 0, tables[i].answer, NULL, 0);
+    }
 }
 
 /* Each quote is the limit itself: distance 0, zone 5. The watch alone tells the answers apart. */
@@ -1343,6 +1351,7 @@ int main(void)
     figures_of_all_signs();
     figures_of_cap_by_days();
     figures_of_cap();
+    figures_beside_cap();
     figures_of_watch();
     figures_of_frozen_quotes();
     printf("%d passed, %d failed\n", passed, failed);
