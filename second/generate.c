@@ -198,26 +198,41 @@ static int64_t make_inner_bound(Random *random, Steps half_move)
     }
 }
 
+static void set_price(Random *random, uint32_t *contract, int64_t price)
+{
+    int64_t settlement = clamp(price, -MOST_TABLE_PRICE, MOST_TABLE_PRICE);
+    contract[CONTRACT_SETTLEMENT] = (uint32_t)settlement;
+    contract[CONTRACT_FLAGS] |= settlement < 1 || chance(random, 30) ? FLAG_PERMITS_NEGATIVE : 0u;
+}
+
+/* A price whose market bounds differ in sign. */
+static void bring_around_zero(Random *random, uint32_t *contract, Steps half_width)
+{
+    set_price(random, contract, chance(random, 15) ? 0 : between(random, -half_width.steps, half_width.steps));
+}
+
 /* Gives a contract another price, so near to zero that its market bounds differ in sign, or that shifts may bring it
-   about. Spot and least price stay, and with them the half-width. */
+   about. Spot and least price stay, and with them the half-width. A contract with a fault that mending leaves is left too. */
 static void bring_near_zero(Random *random, TableDraft *draft, uint32_t index)
 {
     uint32_t *contract = draft->contracts[index];
     Session session;
     mend_contract(draft, index);
-    open_contract(draft, index, &session);
-    int64_t half_width = session.lines[0].half_width[0].steps;
-    int64_t price = chance(random, 15) ? 0 : between(random, -half_width, half_width);
+    if (open_contract(draft, index, &session) != NOT_REFUSED) {
+        return;
+    }
+    const Line *line = &session.lines[0];
     if (chance(random, 60)) {
-        price = half_width + make_inner_bound(random, session.lines[0].half_move);
-        price = chance(random, 50) ? price : -price;
-    } else if (chance(random, 50)) {
-        /* So wide a corridor that whether it is refused with 9 may hang on the factors. */
+        int64_t price = line->half_width[0].steps + make_inner_bound(random, line->half_move);
+        set_price(random, contract, chance(random, 50) ? price : -price);
+        return;
+    }
+    bring_around_zero(random, contract, line->half_width[0]);
+    if (chance(random, 50)) {
+        /* So wide a corridor that whether it is refused with 9 may hang on the factors. One that is refused is mended
+           by and by; damage_limits leaves some. */
         contract[CONTRACT_WIDTH_SHARE] = count_between(random, 700000, 1000000);
     }
-    price = clamp(price, -MOST_TABLE_PRICE, MOST_TABLE_PRICE);
-    contract[CONTRACT_SETTLEMENT] = (uint32_t)price;
-    contract[CONTRACT_FLAGS] |= price < 1 || chance(random, 30) ? FLAG_PERMITS_NEGATIVE : 0u;
 }
 
 static bool id_used(const TableDraft *draft, uint32_t lines, uint32_t id)
@@ -415,28 +430,46 @@ static void damage_half_move(Random *random, TableDraft *draft)
     contract[CONTRACT_RATE_1] = contract[CONTRACT_RATE_2] = contract[CONTRACT_RATE_3] = 1000000;
 }
 
-/* Grows the width share of one contract to where the limits leave the interest bounds, or one less. */
+/* Where the limits of a contract leave the interest bounds: the least width share that is refused, or 1,000,001. */
+static uint32_t least_refused_share(const TableDraft *draft, uint32_t index)
+{
+    TableDraft tried = *draft;
+    uint32_t good = 0;
+    uint32_t bad = 1000001;
+    while (bad - good > 1) {
+        uint32_t share = good + (bad - good) / 2;
+        tried.contracts[index][CONTRACT_WIDTH_SHARE] = share;
+        if (refusal_of_contract(&tried, index) == NOT_REFUSED) {
+            good = share;
+        } else {
+            bad = share;
+        }
+    }
+    return bad;
+}
+
+/* Grows the width share of one contract to where the limits leave the interest bounds, or farther, or to one less. Most
+   have their market bounds around zero. */
 static void damage_limits(Random *random, TableDraft *draft)
 {
     uint32_t index = count_between(random, 0, draft->contract_count - 1);
     uint32_t *contract = draft->contracts[index];
+    Session session;
     set_rates_of_keys(draft, 100000);
     for (uint32_t i = 0; i < draft->contract_count; i++) {
         draft->contracts[i][CONTRACT_DAYS_LEFT] = count_between(random, 1, 700);
         mend_contract(draft, i);
     }
-    uint32_t good = 0;
-    uint32_t bad = 1000001;
-    while (bad - good > 1) {
-        contract[CONTRACT_WIDTH_SHARE] = good + (bad - good) / 2;
-        if (refusal_of_contract(draft, index) == NOT_REFUSED) {
-            good = contract[CONTRACT_WIDTH_SHARE];
-        } else {
-            bad = contract[CONTRACT_WIDTH_SHARE];
-        }
+    if (chance(random, 75) && open_contract(draft, index, &session) == NOT_REFUSED) {
+        bring_around_zero(random, contract, session.lines[0].half_width[0]);
     }
-    bool refused = bad <= 1000000 && chance(random, 70);
-    contract[CONTRACT_WIDTH_SHARE] = refused ? (uint32_t)clamp(bad + between(random, 0, 3), 0, MILLION) : good;
+    uint32_t bad = least_refused_share(draft, index);
+    if (bad > MILLION || chance(random, 25)) {
+        contract[CONTRACT_WIDTH_SHARE] = bad - 1;
+    } else {
+        uint32_t most = chance(random, 50) ? 1000000 : (uint32_t)clamp(bad + 3, 0, MILLION);
+        contract[CONTRACT_WIDTH_SHARE] = count_between(random, bad, most);
+    }
 }
 
 static void damage(Random *random, TableDraft *draft, Refusal aim)
@@ -698,7 +731,7 @@ static size_t damage_bytes(Random *random, TableDraft *draft, uint8_t *bytes)
     return length;
 }
 
-/* Writes the table, damaged in about one input out of five. */
+/* Writes the table, damaged in about one input out of four. */
 static size_t add_table(Random *random, uint8_t *bytes)
 {
     TableDraft draft = make_table(random);
@@ -708,6 +741,9 @@ static size_t add_table(Random *random, uint8_t *bytes)
     }
     if (kind < 20) {
         damage(random, &draft, (Refusal)between(random, REFUSED_LENGTH_OR_OFFSETS, REFUSED_LIMITS));
+    } else if (kind < 25) {
+        /* Refusal 9 more often than the others, since it hangs on the factors. */
+        damage(random, &draft, REFUSED_LIMITS);
     }
     /* A second damage at times, so that the order of the refusals shows. */
     if (kind < 20 && chance(random, 20)) {
