@@ -325,7 +325,7 @@ static bool judge(const Result *result)
     for (int i = 0; i < COMPARISONS; i++) {
         passed += good_count(NAMES[i], result->differ[i], 0, 0);
     }
-    passed += tally_enough(&result->total, TALLY_FIRST, GATE_INPUTS_FOR_EACH_COUNT);
+    passed += tally_enough(&result->total, TALLY_FIRST, GATE_INPUTS, GATE_INPUTS_FOR_EACH_COUNT);
     passed += good_count("events in all", result->total.times[TALLY_EVENTS], GATE_EVENTS, UINT64_MAX);
     printf("%d passed, %d failed\n", passed, checks - passed);
     return passed == checks;

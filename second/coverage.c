@@ -1,8 +1,8 @@
 /*
  * coverage.c: the program "coverage SEED COUNT". It generates inputs, runs the engine on each, and prints
  * what they brought about. Short sessions are also checked second by second against the slow engine. Every input
- * is also run with free events added (thickened.h). It fails at any difference, and where too few inputs have contracts
- * near zero, or let an added event show.
+ * is also run with free events added (thickened.h). It fails at any difference, and where too few inputs bring about what
+ * tally.c demands a share for.
  */
 #include "corridor.h"
 #include "draft.h"
@@ -81,14 +81,12 @@ static void take_thickened(Result *result, const Input *input, uint64_t number, 
     }
 }
 
-/* Each thing that contracts near zero or added events can bring about has to come from one input in twenty. */
 static bool judge(const Result *result, uint64_t count)
 {
     printf("%" PRIu64 " compared second by second, %" PRIu64 " different\n", result->slow, result->slow_different);
     printf("%" PRIu64 " compared with free events added, %" PRIu64 " different\n", result->thickened,
            result->thickened_different);
-    int demanded = TALLY_COUNTS - TALLY_FIRST_NEAR_ZERO;
-    bool enough = tally_enough(&result->total, TALLY_FIRST_NEAR_ZERO, count / 20) == demanded;
+    bool enough = tally_enough(&result->total, TALLY_FIRST, count, 0) == TALLY_COUNTS - TALLY_FIRST;
     return enough && result->slow_different == 0 && result->thickened_different == 0;
 }
 

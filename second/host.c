@@ -505,7 +505,7 @@ static bool judge(void)
         }
         passed += !differ[i];
     }
-    passed += tally_enough(&total, TALLY_FIRST_ADDED, INPUTS_FOR_EACH_COUNT);
+    passed += tally_enough(&total, TALLY_FIRST_ADDED, INPUTS, INPUTS_FOR_EACH_COUNT);
     printf("%d passed, %d failed\n", passed, checks - passed);
     return passed == checks;
 }

@@ -7,9 +7,13 @@
 
 #include <inttypes.h>
 #include <stdio.h>
+#include <string.h>
 
 static const int64_t MILLION = 1000000;
 static const int64_t BILLION = 1000000000;
+
+/* A half-width that few contracts around zero have unless they are brought there. */
+static const int64_t WIDE_STEPS = 1000;
 
 static const char *const NAMES[TALLY_COUNTS] = {
     NULL, "refusal 1", "refusal 2", "refusal 3", "refusal 4", "refusal 5", "refusal 6", "refusal 7", "refusal 8",
@@ -37,14 +41,18 @@ static const char *const NAMES[TALLY_COUNTS] = {
     [TALLY_CUT_EVENT] = "last events cut short",
     [TALLY_UPPER_MARKET_NEGATIVE] = "upper market bounds below zero",
     [TALLY_LOWER_MARKET_NOT_NEGATIVE] = "lower market bounds not below zero",
+    [TALLY_UPPER_ACROSS_ZERO] = "upper market bounds across zero",
+    [TALLY_LOWER_ACROSS_ZERO] = "lower market bounds across zero",
+    [TALLY_FLOORED_MARKET_NEGATIVE] = "floored, market bound below zero",
+    [TALLY_OTHER_BY_PRICE] = "bounds other by the price's sign",
     [TALLY_MARKET_AROUND_ZERO] = "market bounds around zero",
+    [TALLY_WIDE_AROUND_ZERO] = "wide market bounds around zero",
     [TALLY_MARKET_AT_ZERO] = "market bounds at zero",
     [TALLY_MARKET_BESIDE_ZERO] = "market bounds a step from zero",
-    [TALLY_ACROSS_ZERO_UP] = "upper market bounds across zero",
-    [TALLY_ACROSS_ZERO_DOWN] = "lower market bounds across zero",
-    [TALLY_MARKET_BELOW_FLOOR] = "floored, market bound below zero",
-    [TALLY_OTHER_BY_PRICE] = "bounds other by the price's sign",
+    [TALLY_UPPER_ACROSS_FROM_MINUS_ONE] = "upper market bounds across from -1",
+    [TALLY_LOWER_ACROSS_FROM_ONE] = "lower market bounds across from 1",
     [TALLY_REFUSED_BY_PRICE] = "lines refused by the price's sign",
+    [TALLY_REFUSED_AROUND_ZERO] = "refusal 9 around zero",
     [TALLY_TICKS_ADDED] = "ticks added",
     [TALLY_QUOTES_REPEATED] = "quotes repeated",
     [TALLY_HELD_QUOTES_REPEATED] = "quotes repeated under a hold",
@@ -54,6 +62,35 @@ static const char *const NAMES[TALLY_COUNTS] = {
     [TALLY_ADDED_BEFORE_ACCEPTED] = "added before any accepted event",
     [TALLY_ADDED_AFTER_REFUSED] = "added after a refused event",
     [TALLY_OTHER_REFUSAL] = "events refused with another number",
+};
+
+/* How many of a thousand generated inputs have to bring it about. Behind it, for what contracts near zero bring about:
+   about how many do, and how many would if generate.c brought no contracts near zero (for refusal 9, if damage_limits
+   brought none around zero), so that each of these demands would fail then. */
+static const uint64_t LEAST_IN_A_THOUSAND[TALLY_COUNTS] = {
+    [TALLY_UPPER_MARKET_NEGATIVE] = 50,
+    [TALLY_LOWER_MARKET_NOT_NEGATIVE] = 50,
+    [TALLY_UPPER_ACROSS_ZERO] = 50,
+    [TALLY_LOWER_ACROSS_ZERO] = 50,
+    [TALLY_FLOORED_MARKET_NEGATIVE] = 50,
+    [TALLY_OTHER_BY_PRICE] = 50,
+    [TALLY_MARKET_AROUND_ZERO] = 300, /* 366, 243 */
+    [TALLY_WIDE_AROUND_ZERO] = 100, /* 187, 37 */
+    [TALLY_MARKET_AT_ZERO] = 130, /* 170, 90 */
+    [TALLY_MARKET_BESIDE_ZERO] = 110, /* 172, 53 */
+    [TALLY_UPPER_ACROSS_FROM_MINUS_ONE] = 15, /* 37, 3 */
+    [TALLY_LOWER_ACROSS_FROM_ONE] = 22, /* 41, 10 */
+    [TALLY_REFUSED_BY_PRICE] = 65, /* 92, 50 */
+    [TALLY_REFUSED_AROUND_ZERO] = 12, /* 25, 7 */
+    [TALLY_TICKS_ADDED] = 50,
+    [TALLY_QUOTES_REPEATED] = 50,
+    [TALLY_HELD_QUOTES_REPEATED] = 50,
+    [TALLY_EMPTY_BOOKS_REPEATED] = 50,
+    [TALLY_REPEATED_AT_SHIFT] = 50,
+    [TALLY_ADDED_REPORTS_SHIFT] = 50,
+    [TALLY_ADDED_BEFORE_ACCEPTED] = 50,
+    [TALLY_ADDED_AFTER_REFUSED] = 50,
+    [TALLY_OTHER_REFUSAL] = 50,
 };
 
 static uint64_t frozen_lines(const Session *session)
@@ -198,17 +235,39 @@ static void count_near_zero(Tally *one, const Line *opened, const Line *line, co
     }
     int64_t upper = upper_market(opened).steps;
     int64_t lower = lower_market(opened).steps;
+    bool around = lower < 0 && upper > 0;
+    bool up_across = upper < 0 && upper_market(line).steps > 0;
+    bool down_across = lower > 0 && lower_market(line).steps < 0;
     one->times[TALLY_UPPER_MARKET_NEGATIVE] += upper < 0;
     one->times[TALLY_LOWER_MARKET_NOT_NEGATIVE] += lower >= 0;
-    one->times[TALLY_MARKET_AROUND_ZERO] += lower < 0 && upper > 0;
+    one->times[TALLY_UPPER_ACROSS_ZERO] += up_across;
+    one->times[TALLY_LOWER_ACROSS_ZERO] += down_across;
+    one->times[TALLY_FLOORED_MARKET_NEGATIVE] += line->lower_frozen && lower_market(line).steps < 0;
+    one->times[TALLY_OTHER_BY_PRICE] += other_by_price(line, opened->centre);
+    one->times[TALLY_MARKET_AROUND_ZERO] += around;
+    one->times[TALLY_WIDE_AROUND_ZERO] += around && opened->half_width[0].steps >= WIDE_STEPS;
     one->times[TALLY_MARKET_AT_ZERO] += had_market_bound(opened, line, (Steps){0});
     one->times[TALLY_MARKET_BESIDE_ZERO]
         += had_market_bound(opened, line, (Steps){-1}) || had_market_bound(opened, line, (Steps){1});
-    one->times[TALLY_ACROSS_ZERO_UP] += upper < 0 && upper_market(line).steps > 0;
-    one->times[TALLY_ACROSS_ZERO_DOWN] += lower > 0 && lower_market(line).steps < 0;
-    one->times[TALLY_MARKET_BELOW_FLOOR] += line->lower_frozen && lower_market(line).steps < 0;
-    one->times[TALLY_OTHER_BY_PRICE] += other_by_price(line, opened->centre);
+    one->times[TALLY_UPPER_ACROSS_FROM_MINUS_ONE] += up_across && upper == -1;
+    one->times[TALLY_LOWER_ACROSS_FROM_ONE] += down_across && lower == 1;
     one->times[TALLY_REFUSED_BY_PRICE] += refused_by_price(opened, draft_read_field(contract, CONTRACT_WIDTH_SHARE));
+}
+
+/* Whether the line that a table was refused at with 9 has other bounds by the price's sign. By that rule it is refused
+   too: only the bound beyond zero is another, which is the nearer one to the price, and it is nearer still. To have its
+   numbers, the line is opened alone and with width share 0. */
+static bool refused_around_zero(const Input *input, uint32_t line)
+{
+    uint8_t table[LONGEST_TABLE];
+    Session session;
+    size_t contracts = draft_read_field(input->table, HEADER_CONTRACTS_OFFSET);
+    memcpy(table, input->table, contracts);
+    memcpy(table + contracts, input->table + contracts + (line - 1) * CONTRACT_BYTES, CONTRACT_BYTES);
+    memset(table + contracts + 4 * CONTRACT_WIDTH_SHARE, 0, 4);
+    table[4 * HEADER_CONTRACT_COUNT] = 1;
+    TableAnswer answer = corridor_open(table, contracts + CONTRACT_BYTES, &session);
+    return answer.kind == ACCEPTED && other_by_price(&session.lines[0], session.lines[0].centre);
 }
 
 Tally tally_input(const Input *input)
@@ -218,6 +277,8 @@ Tally tally_input(const Input *input)
     TableAnswer answer = corridor_open(input->table, input->table_length, &session);
     if (answer.kind == REFUSED) {
         one.times[answer.reason]++;
+        one.times[TALLY_REFUSED_AROUND_ZERO]
+            += answer.reason == REFUSED_LIMITS && refused_around_zero(input, answer.line);
         return one;
     }
     Session opened = session;
@@ -254,14 +315,16 @@ void tally_print(const TallyTotal *total, TallyCount first)
     }
 }
 
-int tally_enough(const TallyTotal *total, TallyCount first, uint64_t least_inputs)
+int tally_enough(const TallyTotal *total, TallyCount first, uint64_t generated, uint64_t least_inputs)
 {
     int enough = 0;
     for (int i = (int)first; i < TALLY_COUNTS; i++) {
-        if (total->inputs[i] >= least_inputs) {
+        uint64_t share = generated * LEAST_IN_A_THOUSAND[i] / 1000;
+        uint64_t least = share > least_inputs ? share : least_inputs;
+        if (total->inputs[i] >= least) {
             enough++;
         } else {
-            printf("failed: %s: %" PRIu64 " inputs\n", NAMES[i], total->inputs[i]);
+            printf("failed: %s: %" PRIu64 " inputs, %" PRIu64 " demanded\n", NAMES[i], total->inputs[i], least);
         }
     }
     return enough;

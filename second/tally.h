@@ -31,18 +31,22 @@ typedef enum {
     TALLY_ZERO_INSIDE,
     TALLY_BEYOND_32_BITS,
     TALLY_CUT_EVENT,
-    /* From here on what contracts near zero bring about. Lines whose two factors are alike do not count. */
-    TALLY_FIRST_NEAR_ZERO,
-    TALLY_UPPER_MARKET_NEGATIVE = TALLY_FIRST_NEAR_ZERO,
+    /* From here on what the signs of market bounds bring about. Lines whose two factors are alike do not count. */
+    TALLY_UPPER_MARKET_NEGATIVE,
     TALLY_LOWER_MARKET_NOT_NEGATIVE,
+    TALLY_UPPER_ACROSS_ZERO,
+    TALLY_LOWER_ACROSS_ZERO,
+    TALLY_FLOORED_MARKET_NEGATIVE,
+    TALLY_OTHER_BY_PRICE,
+    /* From here on what contracts near zero bring about, and other ones less often. */
     TALLY_MARKET_AROUND_ZERO,
+    TALLY_WIDE_AROUND_ZERO,
     TALLY_MARKET_AT_ZERO,
     TALLY_MARKET_BESIDE_ZERO,
-    TALLY_ACROSS_ZERO_UP,
-    TALLY_ACROSS_ZERO_DOWN,
-    TALLY_MARKET_BELOW_FLOOR,
-    TALLY_OTHER_BY_PRICE,
+    TALLY_UPPER_ACROSS_FROM_MINUS_ONE,
+    TALLY_LOWER_ACROSS_FROM_ONE,
     TALLY_REFUSED_BY_PRICE,
+    TALLY_REFUSED_AROUND_ZERO,
     /* From here on what free events bring about where they are added to the input (thickened.h). */
     TALLY_FIRST_ADDED,
     TALLY_TICKS_ADDED = TALLY_FIRST_ADDED,
@@ -72,7 +76,8 @@ void tally_add(TallyTotal *total, const Tally *one);
 /* Prints all counts from the first on. */
 void tally_print(const TallyTotal *total, TallyCount first);
 
-/* How many of the counts from the first on were brought about by enough inputs. The others are told. */
-int tally_enough(const TallyTotal *total, TallyCount first, uint64_t least_inputs);
+/* How many of the counts from the first on were brought about by enough inputs: the least number given, and of the generated
+   ones the share that tally.c demands. The others are told. */
+int tally_enough(const TallyTotal *total, TallyCount first, uint64_t generated, uint64_t least_inputs);
 
 #endif
