@@ -66,7 +66,7 @@ module _ (pairs : Memory) (p : ℕ) (row : List ℕ) (m : Line) (long : length p
   abbrev stood : Line
   stood = getD (session-in pairs .lines) p blank
 
-  pub judged-stored : (stood .terms ≡ m .terms) × (stood .market ≡ m .market) → (limits-in row ≡ m .limits) × (book-in row ≡ m .book) × (holds-in row ≡ m .holds)
+  pub judged-stored : (m .terms ≡ stood .terms) × (m .market ≡ stood .market) → (limits-in row ≡ m .limits) × (book-in row ≡ m .book) × (holds-in row ≡ m .holds)
       → session-in (set pairs p (set pair 1 row)) ≡ with-line (session-in pairs) p m
   unfolding line-in
   judged-stored (terms, market) (limits, book, holds) =
@@ -74,8 +74,8 @@ module _ (pairs : Memory) (p : ℕ) (row : List ℕ) (m : Line) (long : length p
       line-stored pairs p (set pair 1 row) m h
       (λ j.
       record {
-        terms = (ap terms-in first-stands ∙ sym (ap (λ (l : Line). l .terms) was) ∙ terms) j;
-        market = (ap market-in first-stands ∙ sym (ap (λ (l : Line). l .market) was) ∙ market) j;
+        terms = (ap terms-in first-stands ∙ sym (terms ∙ ap (λ (l : Line). l .terms) was)) j;
+        market = (ap market-in first-stands ∙ sym (market ∙ ap (λ (l : Line). l .market) was)) j;
         limits = (ap limits-in second-is ∙ limits) j;
         book = (ap book-in second-is ∙ book) j;
         holds = (ap holds-in second-is ∙ holds) j;

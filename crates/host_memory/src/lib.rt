@@ -63,7 +63,7 @@ pub fn head(memory: &[[[u64; 16]; 2]; 33]) -> Head
 
 pub fn line_at(memory: &[[[u64; 16]; 2]; 33], place: usize) -> Line
     requires { ⌜ place < 32 ⌝ }
-    ensures { λ r. ⌜ getD (session-in (now (memory .entry)) .lines) place blank ≡ r ⌝ }
+    ensures { λ r. ⌜ r ≡ getD (session-in (now (memory .entry)) .lines) place blank ⌝ }
 {
     pairs(memory);
     reading::line(&memory[place])
@@ -72,7 +72,7 @@ pub fn line_at(memory: &[[[u64; 16]; 2]; 33], place: usize) -> Line
 // Of a line its id alone, or its holds: what a walk over all lines wants.
 pub fn id_at(memory: &[[[u64; 16]; 2]; 33], place: usize) -> u32
     requires { ⌜ place < 32 ⌝ }
-    ensures { λ r. ⌜ getD (session-in (now (memory .entry)) .lines) place blank .terms .id ≡ r ⌝ }
+    ensures { λ r. ⌜ r ≡ getD (session-in (now (memory .entry)) .lines) place blank .terms .id ⌝ }
 {
     pairs(memory);
     reading::id(&memory[place][0])
@@ -80,7 +80,7 @@ pub fn id_at(memory: &[[[u64; 16]; 2]; 33], place: usize) -> u32
 
 pub fn holds_at(memory: &[[[u64; 16]; 2]; 33], place: usize) -> Holds
     requires { ⌜ place < 32 ⌝ }
-    ensures { λ r. ⌜ getD (session-in (now (memory .entry)) .lines) place blank .holds ≡ r ⌝ }
+    ensures { λ r. ⌜ r ≡ getD (session-in (now (memory .entry)) .lines) place blank .holds ⌝ }
 {
     pairs(memory);
     reading::holds(&memory[place][1])
@@ -123,33 +123,26 @@ pub fn kept(memory: &mut [[[u64; 16]; 2]; 33], s: Session)
         let pair = writing::rows(l);
         memory[i] = pair;
     }
-    let clock = s.clock;
-    let end = s.end;
-    let hold = s.hold;
-    let near = s.near;
     let top = writing::head_row(Head {
         count: s.count,
-        clock: clock,
-        end: end,
-        hold: hold,
+        clock: s.clock,
+        end: s.end,
+        hold: s.hold,
         left: s.left,
-        near: near,
+        near: s.near,
     });
     memory[32] = [top, [0; 16]];
 }
 
 // A line after a quote, in the place of the one before: its second row alone, since its terms and its market stand.
 pub fn with_quote(memory: &mut [[[u64; 16]; 2]; 33], place: usize, l: Line)
-    requires { ⌜ (place < 32) × (getD (session-in (now memory) .lines) place blank .terms ≡ l .terms)
-        × (getD (session-in (now memory) .lines) place blank .market ≡ l .market) ⌝ }
+    requires { ⌜ (place < 32) × (l .terms ≡ getD (session-in (now memory) .lines) place blank .terms)
+        × (l .market ≡ getD (session-in (now memory) .lines) place blank .market) ⌝ }
     ensures { λ _. ⌜ session-in (now (memory .exit)) ≡ with-line (session-in (now (memory .entry))) place l ⌝ }
 {
     pairs(memory);
     rows(&memory[place]);
-    let limits = l.limits;
-    let book = l.book;
-    let holds = l.holds;
-    let row = writing::judged_row(limits, book, holds);
+    let row = writing::judged_row(l.limits, l.book, l.holds);
     memory[place][1] = row;
 }
 

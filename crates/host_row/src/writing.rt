@@ -75,21 +75,16 @@ fn hold_numbers(h: Hold) -> Two
 fn drawn_row(terms: Terms, market: Market) -> [u64; 16]
     ensures { λ r. ⌜ (terms-in r ≡ terms) × (market-in r ≡ market) ⌝ }
 {
-    let halfmove = terms.halfmove;
-    let centre = market.centre;
-    let half1 = market.half1;
-    let half2 = market.half2;
-    let half3 = market.half3;
     [
         word_number(terms.id),
         word_number(terms.flags),
-        signed_number(halfmove),
+        signed_number(terms.halfmove),
         terms.factors.up.0,
         terms.factors.down.0,
-        signed_number(centre),
-        signed_number(half1),
-        signed_number(half2),
-        signed_number(half3),
+        signed_number(market.centre),
+        signed_number(market.half1),
+        signed_number(market.half2),
+        signed_number(market.half3),
         0,
         0,
         0,
@@ -104,8 +99,6 @@ fn drawn_row(terms: Terms, market: Market) -> [u64; 16]
 pub fn judged_row(limits: Limits, book: Book, holds: Holds) -> [u64; 16]
     ensures { λ r. ⌜ (limits-in r ≡ limits) × (book-in r ≡ book) × (holds-in r ≡ holds) ⌝ }
 {
-    let upper = limits.upper;
-    let lower = limits.lower;
     let bid = book.bid;
     let ask = book.ask;
     let up = holds.up;
@@ -115,8 +108,8 @@ pub fn judged_row(limits: Limits, book: Book, holds: Holds) -> [u64; 16]
     let u = hold_numbers(up);
     let d = hold_numbers(down);
     [
-        signed_number(upper),
-        signed_number(lower),
+        signed_number(limits.upper),
+        signed_number(limits.lower),
         mark_number(limits.frozen),
         b.there,
         b.number,
@@ -138,12 +131,10 @@ pub fn judged_row(limits: Limits, book: Book, holds: Holds) -> [u64; 16]
 pub fn rows(l: Line) -> [[u64; 16]; 2]
     ensures { λ r. ⌜ line-in r ≡ l ⌝ }
 {
-    let terms = l.terms;
-    let market = l.market;
-    let limits = l.limits;
-    let book = l.book;
-    let holds = l.holds;
-    [drawn_row(terms, market), judged_row(limits, book, holds)]
+    [
+        drawn_row(l.terms, l.market),
+        judged_row(l.limits, l.book, l.holds),
+    ]
 }
 
 // A row that has the head.

@@ -58,7 +58,7 @@ module _ (c : tie.After-line-at Inv-loop μ-loop) where
 
   same : Fit (given at .near) (given at .left) (most-left (view (given at))) (getD (given at .lines) (at .loop .i) blank) ≡ Read
   unfolding most-left
-  same = λ j. Fit (read at j .near) (read at j .left) (read at j .left) (c .line-at .ensures j)
+  same = λ j. Fit (read at j .near) (read at j .left) (read at j .left) (sym (c .line-at .ensures) j)
 
 head-requires : tie.Need-head-requires Inv-loop μ-loop
 head-requires c κs = search needs

@@ -109,7 +109,7 @@ passed-requires c κs =
     let turn : tie.In-loop Inv-loop μ-loop = c .before .before in
     let a : tie.At-loop Inv-loop μ-loop = turn .before in
     let p = start a .pre in
-    (subst HoldsIn (c .holds-at .ensures) (p .1 (a .loop .i) (below turn) .0 .holds), subst (λ (z : Session). z .hold .0 ≤ longest-hold) (read a) (p .0 .hold .most))
+    (subst HoldsIn (sym (c .holds-at .ensures)) (p .1 (a .loop .i) (below turn) .0 .holds), subst (λ (z : Session). z .hold .0 ≤ longest-hold) (read a) (p .0 .hold .most))
 
 add-i : tie.Need-add-i Inv-loop μ-loop
 add-i c = omega (arith, within (c .before .before .before))
@@ -124,8 +124,8 @@ loop-again c =
     let z = given a in (
       omega (arith, below turn),
       passed-turn (z .hold) (z .count) (z .lines) (a .loop .i) (a .loop .best) (c .passed .result) (below turn) (omega (arith, few a, full a))
-          (c .passed .ensures ∙ sym (λ j. passed (read a j .hold) (a .loop .i) (c .before .holds-at .ensures j) (a .loop .best))) (a .loop .inv .1),
-      subst (λ (k : ℕ). Gathered (z .lines) (a .loop .i + 1) (set (a .loop .ids) (a .loop .i) k)) (c .before .before .id-at .ensures)
+          (c .passed .ensures ∙ sym (λ j. passed (read a j .hold) (a .loop .i) (sym (c .before .holds-at .ensures) j) (a .loop .best))) (a .loop .inv .1),
+      subst (λ (k : ℕ). Gathered (z .lines) (a .loop .i + 1) (set (a .loop .ids) (a .loop .i) k)) (sym (c .before .before .id-at .ensures))
           (gathered-turn (z .lines) (a .loop .i) (a .loop .ids) (omega (arith, full a, within turn)) (within turn) (a .loop .inv .2)),
     )
 

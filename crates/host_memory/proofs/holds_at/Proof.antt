@@ -27,7 +27,7 @@ returns : tie.Need-returns
 unfolding line-in
 returns c =
     let s = c .before .before .before in
-    ap (λ (l : Line). l .holds) (line-is (now (s .args .memory)) (s .args .place) (c .before .before .pairs .ensures .1) (s .pre)) ∙ sym (c .holds .ensures)
+    c .holds .ensures ∙ sym (ap (λ (l : Line). l .holds) (line-is (now (s .args .memory)) (s .args .place) (c .before .before .pairs .ensures .1) (s .pre)))
 
 pub holds-at-spec : {M : Type 1} → statement M
 holds-at-spec =

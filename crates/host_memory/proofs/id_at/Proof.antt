@@ -27,7 +27,7 @@ returns : tie.Need-returns
 unfolding line-in
 returns c =
     let s = c .before .before .before in
-    ap (λ (l : Line). l .terms .id) (line-is (now (s .args .memory)) (s .args .place) (c .before .before .pairs .ensures .1) (s .pre)) ∙ sym (c .id .ensures)
+    c .id .ensures ∙ sym (ap (λ (l : Line). l .terms .id) (line-is (now (s .args .memory)) (s .args .place) (c .before .before .pairs .ensures .1) (s .pre)))
 
 pub id-at-spec : {M : Type 1} → statement M
 id-at-spec = tie.close (tie.spec pairs-requires mul-id index-1-id index-2-id id-requires returns)

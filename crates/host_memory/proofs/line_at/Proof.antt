@@ -21,7 +21,7 @@ line-requires c κs = search needs
 returns : tie.Need-returns
 returns c =
     let s = c .before .before .before in
-    line-is (now (s .args .memory)) (s .args .place) (c .before .before .pairs .ensures .1) (s .pre) ∙ sym (c .line .ensures)
+    c .line .ensures ∙ sym (line-is (now (s .args .memory)) (s .args .place) (c .before .before .pairs .ensures .1) (s .pre))
 
 pub line-at-spec : {M : Type 1} → statement M
 line-at-spec = tie.close (tie.spec pairs-requires mul-line index-1-line line-requires returns)

@@ -31,7 +31,7 @@ index-2-row c = search needs
 
 returns : tie.Need-returns
 returns c =
-    let r = c .before .before .before .before in
+    let r = c .before in
     let s = r .before .before .before .before in
     judged-stored (now (s .args .memory)) (s .args .place) _ (s .args .l) (r .before .before .pairs .ensures .1) (r .rows .ensures .1) (s .pre .0)
     (s .pre .1, s .pre .2) (c .judged-row .ensures)

@@ -40,7 +40,7 @@ module _ (c : tie.In-loop Inv-loop μ-loop) where
   within = omega (arith, below, start (c .before) .pre .few)
 
 -- the id of the line that is read there
-id-read : (c : tie.After-line-at Inv-loop μ-loop) → getD (given (c .before .before) .lines) (c .before .before .loop .i) blank .terms .id ≡ c .line-at .result .terms .id
+id-read : (c : tie.After-line-at Inv-loop μ-loop) → c .line-at .result .terms .id ≡ getD (given (c .before .before) .lines) (c .before .before .loop .i) blank .terms .id
 id-read c = ap (λ (l : Line). l .terms .id) (c .line-at .ensures)
 
 head-requires : tie.Need-head-requires Inv-loop μ-loop
@@ -57,8 +57,8 @@ returns c =
     let l : tie.After-line-at Inv-loop μ-loop = c .before .before in
     let a : tie.At-loop Inv-loop μ-loop = l .before .before in
     let s = start a in
-    ap Sought.At (sym (l .line-at .ensures))
-    ∙ sought-met (given a) (s .args .id) (a .loop .i) (s .pre) (walk-met (given a) (s .args .id) (a .loop .i) (s .pre) (a .loop .inv) (below (l .before)) (id-read l ∙ c .if1 .taken))
+    ap Sought.At (l .line-at .ensures)
+    ∙ sought-met (given a) (s .args .id) (a .loop .i) (s .pre) (walk-met (given a) (s .args .id) (a .loop .i) (s .pre) (a .loop .inv) (below (l .before)) (sym (id-read l) ∙ c .if1 .taken))
 
 add-i : tie.Need-add-i Inv-loop μ-loop
 add-i c = omega (arith, within (c .before .before .before))
@@ -71,7 +71,7 @@ loop-again c =
     let l : tie.After-line-at Inv-loop μ-loop = c .before .before in
     let a : tie.At-loop Inv-loop μ-loop = l .before .before in
     let s = start a in
-    walk-turn (given a) (s .args .id) (a .loop .i) (s .pre) (a .loop .inv) (below (l .before)) (λ q. c .if1 .left (sym (id-read l) ∙ q))
+    walk-turn (given a) (s .args .id) (a .loop .i) (s .pre) (a .loop .inv) (below (l .before)) (λ q. c .if1 .left (id-read l ∙ q))
 
 returns-2 : tie.Need-returns-2 Inv-loop μ-loop
 returns-2 c =

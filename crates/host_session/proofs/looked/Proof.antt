@@ -85,7 +85,7 @@ until-requires c κs =
     let turn : tie.In-loop Inv-loop μ-loop = c .before .before in
     let a : tie.At-loop Inv-loop μ-loop = turn .before in
     let wait = a .before .head .result .hold in
-    subst (λ (h : Holds). HoldsIn h × (wait .0 ≤ longest-hold)) (c .holds-at .ensures)
+    subst (λ (h : Holds). HoldsIn h × (wait .0 ≤ longest-hold)) (sym (c .holds-at .ensures))
     (row-passes wait (a .loop .i) (ranged (start a .pre)) (λ j. read a j .hold) (below turn))
 
 add-i : tie.Need-add-i Inv-loop μ-loop
@@ -102,8 +102,8 @@ loop-again c =
     let v = start a .pre in (
       omega (arith, below turn),
       until-turn (z .hold) (z .count) (z .lines) (a .loop .i) (a .loop .quiet) (c .until .result) (below turn) (omega (arith, v .few, v .full))
-          (c .until .ensures ∙ sym (λ j. until (a .loop .quiet) (read a j .hold) (c .before .holds-at .ensures j))) (a .loop .inv .1),
-      subst (λ (k : ℕ). Gathered (z .lines) (a .loop .i + 1) (set (a .loop .ids) (a .loop .i) k)) (c .before .before .id-at .ensures)
+          (c .until .ensures ∙ sym (λ j. until (a .loop .quiet) (read a j .hold) (sym (c .before .holds-at .ensures) j))) (a .loop .inv .1),
+      subst (λ (k : ℕ). Gathered (z .lines) (a .loop .i + 1) (set (a .loop .ids) (a .loop .i) k)) (sym (c .before .before .id-at .ensures))
           (gathered-turn (z .lines) (a .loop .i) (a .loop .ids) (omega (arith, v .full, within turn)) (within turn) (a .loop .inv .2)),
     )
 

@@ -30,28 +30,28 @@ module _ (c : tie.After-line-at) where
   read : entry ≡ session-of (entry .lines) (c .before .before .head .result)
   read = c .before .before .head .ensures
 
-  line-read : getD (entry .lines) (start .args .place) blank ≡ c .line-at .result
+  line-read : c .line-at .result ≡ getD (entry .lines) (start .args .place) blank
   line-read = c .line-at .ensures
 
 quoted-line-requires : tie.Need-quoted-line-requires
 quoted-line-requires c κs =
     let q = start c .args .q in
-    subst (λ (z : Type 0). z) (λ j. JudgeableLine (read c j .near) (with-book (line-read c j) (q .bid) (q .ask))) (start c .pre .2)
+    subst (λ (z : Type 0). z) (λ j. JudgeableLine (read c j .near) (with-book (sym (line-read c) j) (q .bid) (q .ask))) (start c .pre .2)
 
 -- a quote leaves the terms and the market
 with-quote-requires : tie.Need-with-quote-requires
 unfolding quoted-line judge-line
 with-quote-requires c κs =
     let w = c .before .before in
-    let after = sym (c .before .quoted-line .ensures) in
-    (start w .pre .0, ap (λ (l : Line). l .terms) (line-read w) ∙ ap (λ (l : Line). l .terms) after, ap (λ (l : Line). l .market) (line-read w) ∙ ap (λ (l : Line). l .market) after)
+    let after = c .before .quoted-line .ensures in
+    (start w .pre .0, ap (λ (l : Line). l .terms) after ∙ ap (λ (l : Line). l .terms) (line-read w), ap (λ (l : Line). l .market) after ∙ ap (λ (l : Line). l .market) (line-read w))
 
 returns : tie.Need-returns
 returns c =
     let w = c .before .before .before in
     c .with-quote .ensures
     ∙ ap (with-line (entry w) (start w .args .place))
-    (c .before .before .quoted-line .ensures ∙ sym (λ j. quoted-line (read w j .near) (read w j .left) (start w .args .q) (line-read w j)))
+    (c .before .before .quoted-line .ensures ∙ sym (λ j. quoted-line (read w j .near) (read w j .left) (start w .args .q) (sym (line-read w) j)))
 
 pub quoted-spec : {M : Type 1} → statement M
 quoted-spec =

@@ -34,7 +34,7 @@ returns c = (
         id = c .before .before .before .before .before .before .word-number .ensures i;
         flags = c .before .before .before .before .before .word-number2 .ensures i;
         halfmove = steps (c .before .before .before .before .signed-number .ensures i);
-        factors = c .before .before .before .before .before .before .before .before .before .before .before .before .args .terms .factors;
+        factors = c .before .before .before .before .before .before .before .args .terms .factors;
       },
   λ i.
       record {
