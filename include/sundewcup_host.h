@@ -3,7 +3,8 @@
  *
  * The session lies in memory that you own: a sundewcup_session, on the stack, in a static or from malloc. Nothing is kept
  * anywhere else, so two sessions do not know of each other, and a copy of one (memcpy, or a file) is a session that goes on
- * from there by itself, in another process too. `sundewcup_open` fills it; until then it may hold anything.
+ * from there by itself, in another process with the same library too. `sundewcup_open` fills it; until then it may hold
+ * anything.
  *
  * Memory whose numbers are no sound session, because none was opened there, its table was refused or somebody changed them,
  * is refused with SUNDEWCUP_DAMAGED: every function that takes a session, but for `sundewcup_open` and the two with

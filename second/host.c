@@ -409,13 +409,16 @@ static void take_unfilled(void)
 static size_t opened_sessions;
 static size_t damaged_sessions;
 
-/* A number of the first line's two rows or of the head's, whatever it means; the rows of no contract say nothing. Of those
-   that are 0 most are passed over, since few of them mean anything. */
+/* The numbers of a line, and of the head, which comes after 32 lines. */
+enum { LINE_NUMBERS = 32, HEAD_NUMBERS = 16, HEAD_PLACE = 32 * LINE_NUMBERS };
+
+/* A number of the first line or of the head, whatever it means; the lines of no contract say nothing. Of those that are 0 most
+   are passed over, since few of them mean anything. */
 static size_t choose_number(Random *random, const sundewcup_session *session)
 {
     for (;;) {
-        size_t among = (size_t)between(random, 0, 47);
-        size_t place = among < 32 ? among : 32 * 32 + among - 32;
+        size_t among = (size_t)between(random, 0, LINE_NUMBERS + HEAD_NUMBERS - 1);
+        size_t place = among < LINE_NUMBERS ? among : HEAD_PLACE + among - LINE_NUMBERS;
         if (session->opaque[place] != 0 || chance(random, 20)) {
             return place;
         }

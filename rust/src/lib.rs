@@ -261,6 +261,11 @@ pub struct Session {
     numbers: Box<[u64; library::SESSION_NUMBERS]>,
 }
 
+/// Memory of another size than the linked library's would be read and written past its end.
+fn demand_same_library() {
+    assert_eq!(library::session_numbers(), library::SESSION_NUMBERS, "another library than this package was written for");
+}
+
 impl Session {
     /// Opens a session from the bytes of a morning table.
     ///
@@ -269,7 +274,7 @@ impl Session {
     /// assert_eq!(refused.to_string(), "header: the table's length is not what its header says (refusal 1)");
     /// ```
     pub fn open(table: &[u8]) -> Result<Session, RefusedTable> {
-        assert_eq!(library::session_numbers(), library::SESSION_NUMBERS, "another library than this package was written for");
+        demand_same_library();
         let mut numbers = Box::new([0; library::SESSION_NUMBERS]);
         let (number, line) = library::open(&mut numbers, table);
         match Refusal::of(number) {
@@ -296,6 +301,7 @@ impl Session {
     /// # Ok::<(), Box<dyn std::error::Error>>(())
     /// ```
     pub fn from_numbers(numbers: [u64; library::SESSION_NUMBERS]) -> Result<Session, Damaged> {
+        demand_same_library();
         match library::check(&numbers) {
             0 => Ok(Session { numbers: Box::new(numbers) }),
             _ => Err(Damaged),

@@ -1,4 +1,4 @@
--- The ranges of what a session has beside its lines: how many rows are in use, and the fields of `Sane` but the lines' own.
+-- The ranges of what a session has beside its lines: how many lines are in use, and the fields of `Sane` but the lines' own.
 use Prim.Native.Nat.{ℕ, _≤_}
 use Rattle.numbers.specs.Ranges.{Between}
 use Rattle.numbers.specs.declared.Seconds.{Seconds}

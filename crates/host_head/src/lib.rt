@@ -10,7 +10,7 @@ ghost use Rattle.host_head.specs.Without.{Without};
 use numbers::Millionths;
 use numbers::Seconds;
 
-const MOST_ROWS: usize = method::MOST_CONTRACTS as usize;
+const MOST_LINES: usize = method::MOST_CONTRACTS as usize;
 
 // Whether an id stands at no place from `from` on.
 fn absent(ids: &[u32], from: usize, id: u32) -> bool
@@ -43,7 +43,7 @@ pub fn distinct(ids: &[u32]) -> bool
     true
 }
 
-// Of what a session has beside its lines: `count` of its rows are in use.
+// Of what a session has beside its lines: `count` of its lines are in use.
 pub fn in_range(
     count: usize,
     clock: Seconds,
@@ -54,7 +54,7 @@ pub fn in_range(
 ) -> bool
     ensures { λ r. ⌜ Decides r (Beside count clock end hold left near) ⌝ }
 {
-    if MOST_ROWS < count {
+    if MOST_LINES < count {
         return false;
     }
     if !numbers::in_range(1, method::LONGEST_HOLD, hold.0) {

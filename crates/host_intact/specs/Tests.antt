@@ -5,7 +5,6 @@ use Rattle.method.specs.words.Types.{blank}
 use Rattle.method.specs.computed.Head.{most-left}
 use Rattle.method.specs.computed.Rooms.{Room}
 use Rattle.method.specs.computed.Sound.{Exact}
-use Rattle.method.specs.declared.Found.the-variants.{Nothing}
 use Rattle.host_head.specs.Beside.{Beside}
 use Rattle.corridor.specs.declared.Session.{Session}
 use Rattle.corridor.specs.View.{view}

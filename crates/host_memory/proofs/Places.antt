@@ -8,8 +8,8 @@ use lib.Seq.{getD-take, length-take-le, take-set-le, take-set-lt, getD-set-same,
 use Rattle.method.specs.words.Types.{blank}
 use Rattle.corridor.specs.View.{with-line}
 use Rattle.host_row.specs.Packed.{no-row, drawn-row, judged-row, terms-in, market-in, limits-in, book-in, holds-in, line-in, head-in}
-use Rattle.host_memory.specs.Names.{Line, Head}
-use Rattle.host_memory.specs.Memory.{Memory, no-pair, head-of, session-of, session-in}
+use Rattle.host_memory.specs.Names.{Limits, Book, Holds, Line, Head}
+use Rattle.host_memory.specs.Memory.{Memory, no-pair, head-of, with-judged, session-of, session-in}
 
 -- ---- the head is read
 pub head-is : (pairs : Memory) {h : Head} → h ≡ head-in (head-of pairs) → session-in pairs ≡ session-of (session-in pairs .lines) h
@@ -53,7 +53,7 @@ line-stored pairs p pair m h e =
     other q = omega arith
 
 -- its second row alone
-module _ (pairs : Memory) (p : ℕ) (row : List ℕ) (m : Line) (long : length pairs ≡ 33) (two : length (getD pairs p no-pair) ≡ 2) (h : p < 32) where
+module _ (pairs : Memory) (p : ℕ) (row : List ℕ) (long : length pairs ≡ 33) (two : length (getD pairs p no-pair) ≡ 2) (h : p < 32) where
   abbrev pair : List (List ℕ)
   pair = getD pairs p no-pair
 
@@ -63,19 +63,16 @@ module _ (pairs : Memory) (p : ℕ) (row : List ℕ) (m : Line) (long : length p
   second-is : judged-row (set pair 1 row) ≡ row
   second-is = getD-set-same pair 1 row no-row (omega arith)
 
-  abbrev stood : Line
-  stood = getD (session-in pairs .lines) p blank
-
-  pub judged-stored : (m .terms ≡ stood .terms) × (m .market ≡ stood .market) → (limits-in row ≡ m .limits) × (book-in row ≡ m .book) × (holds-in row ≡ m .holds)
-      → session-in (set pairs p (set pair 1 row)) ≡ with-line (session-in pairs) p m
+  pub judged-stored : {k : Limits} {b : Book} {o : Holds} → (limits-in row ≡ k) × (book-in row ≡ b) × (holds-in row ≡ o)
+      → session-in (set pairs p (set pair 1 row)) ≡ with-line (session-in pairs) p (with-judged (getD (session-in pairs .lines) p blank) k b o)
   unfolding line-in
-  judged-stored (terms, market) (limits, book, holds) =
-      let was = line-is pairs p long h in
-      line-stored pairs p (set pair 1 row) m h
+  judged-stored (limits, book, holds) =
+      let was = sym (line-is pairs p long h) in
+      line-stored pairs p (set pair 1 row) _ h
       (λ j.
       record {
-        terms = (ap terms-in first-stands ∙ sym (terms ∙ ap (λ (l : Line). l .terms) was)) j;
-        market = (ap market-in first-stands ∙ sym (market ∙ ap (λ (l : Line). l .market) was)) j;
+        terms = (ap terms-in first-stands ∙ ap (λ (l : Line). l .terms) was) j;
+        market = (ap market-in first-stands ∙ ap (λ (l : Line). l .market) was) j;
         limits = (ap limits-in second-is ∙ limits) j;
         book = (ap book-in second-is ∙ book) j;
         holds = (ap holds-in second-is ∙ holds) j;

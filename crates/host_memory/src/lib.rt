@@ -6,16 +6,18 @@ ghost use Prim.Native.Nat.{_<_};
 ghost use lib.ListN.{length, getD};
 ghost use Rattle.method.specs.words.Types.{blank};
 ghost use Rattle.corridor.specs.View.{moved-on, with-line};
-ghost use Rattle.host_memory.specs.Memory.{session-of, session-in};
+ghost use Rattle.host_memory.specs.Memory.{with-judged, session-of, session-in};
 use corridor::Session;
 use host_row::Head;
 use host_row::reading;
 use host_row::writing;
+use method::Book;
 use method::Holds;
+use method::Limits;
 use method::Line;
 use numbers::Seconds;
 
-// Each line has a pair of rows, and one more pair is the last.
+// Each line has a pair of rows, and after them the head has one.
 const LINES: usize = 32;
 
 // How many numbers a session takes.
@@ -134,15 +136,21 @@ pub fn kept(memory: &mut [[[u64; 16]; 2]; 33], s: Session)
     memory[32] = [top, [0; 16]];
 }
 
-// A line after a quote, in the place of the one before: its second row alone, since its terms and its market stand.
-pub fn with_quote(memory: &mut [[[u64; 16]; 2]; 33], place: usize, l: Line)
-    requires { ⌜ (place < 32) × (l .terms ≡ getD (session-in (now memory) .lines) place blank .terms)
-        × (l .market ≡ getD (session-in (now memory) .lines) place blank .market) ⌝ }
-    ensures { λ _. ⌜ session-in (now (memory .exit)) ≡ with-line (session-in (now (memory .entry))) place l ⌝ }
+// Other limits, another book and other holds of a line: its second row alone, which is all that a quote changes.
+pub fn with_judged(
+    memory: &mut [[[u64; 16]; 2]; 33],
+    place: usize,
+    limits: Limits,
+    book: Book,
+    holds: Holds,
+)
+    requires { ⌜ place < 32 ⌝ }
+    ensures { λ _. ⌜ session-in (now (memory .exit)) ≡ with-line (session-in (now (memory .entry))) place
+        (with-judged (getD (session-in (now (memory .entry)) .lines) place blank) limits book holds) ⌝ }
 {
     pairs(memory);
     rows(&memory[place]);
-    let row = writing::judged_row(l.limits, l.book, l.holds);
+    let row = writing::judged_row(limits, book, holds);
     memory[place][1] = row;
 }
 

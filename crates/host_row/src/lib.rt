@@ -1,7 +1,6 @@
 // A line as two rows of 16 numbers, so that it can lie in a host's memory: a type that holds an enum does not go to C. The first row has what
-// its bounds are drawn from, its terms and its market, which only a shift changes; the second what pressure is judged on, its limits, its
-// book and its holds, which a quote moves and which can be written alone. Numbers that neither row has a use for are 0: there is room for
-// what a later request adds to a line, at the same width.
+// a quote leaves alone and bounds are drawn from, terms and market; the second limits, book and holds, which are judged, and written together.
+// Numbers that a row has no use for are written as 0 and not read: they are room for what later requests add to a line.
 
 use numbers::Millionths;
 use numbers::Seconds;

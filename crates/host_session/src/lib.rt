@@ -121,7 +121,7 @@ fn quoted(session: &mut [[[u64; 16]; 2]; 33], place: usize, q: Quote)
     let h = host_memory::head(session);
     let l = host_memory::line_at(session, place);
     let m = shifts::quoted_line(h.near, h.left, q, l);
-    host_memory::with_quote(session, place, m);
+    host_memory::with_judged(session, place, m.limits, m.book, m.holds);
 }
 
 // One event, where the session lies. Only where a hold falls due by its second is the session taken out of the memory.

@@ -1,6 +1,7 @@
 -- `host_session::quoted` meets its contract. Assumes nothing.
 use borrow.Author.Needs.{needs}
-use mathlib.Core.Path.{_≡_, sym, ap, subst, _∙_}
+use mathlib.Core.Path.{_≡_, refl, sym, ap, subst, _∙_}
+use Prim.Native.Nat.{ℕ}
 use denote.Ref.{now}
 use lib.ListN.{getD}
 use Rattle.method.specs.words.Types.{blank}
@@ -8,8 +9,8 @@ use Rattle.method.specs.computed.Judge.{judge-line}
 use Rattle.method.specs.computed.Event.{with-book, quoted-line}
 use Rattle.pressure.specs.Asks.{JudgeableLine}
 use Rattle.corridor.specs.View.{with-line}
-use Rattle.host_session.specs.Names.{Line, Session}
-use Rattle.host_memory.specs.Memory.{session-of, session-in}
+use Rattle.host_session.specs.Names.{Millionths, Quote, Line, Session}
+use Rattle.host_memory.specs.Memory.{with-judged, session-of, session-in}
 use Rattle.host_session.proofs.quoted.Statement.{statement}
 use Rattle.host_session.proofs.quoted.Tie as tie
 
@@ -38,20 +39,24 @@ quoted-line-requires c κs =
     let q = start c .args .q in
     subst (λ (z : Type 0). z) (λ j. JudgeableLine (read c j .near) (with-book (sym (line-read c) j) (q .bid) (q .ask))) (start c .pre .2)
 
+with-judged-requires : tie.Need-with-judged-requires
+with-judged-requires c κs = search needs
+
 -- a quote leaves the terms and the market
-with-quote-requires : tie.Need-with-quote-requires
+standing : (near : Millionths) (left : ℕ) (q : Quote) (l : Line) → let m = quoted-line near left q l in with-judged l (m .limits) (m .book) (m .holds) ≡ m
 unfolding quoted-line judge-line
-with-quote-requires c κs =
-    let w = c .before .before in
-    let after = c .before .quoted-line .ensures in
-    (start w .pre .0, ap (λ (l : Line). l .terms) after ∙ ap (λ (l : Line). l .terms) (line-read w), ap (λ (l : Line). l .market) after ∙ ap (λ (l : Line). l .market) (line-read w))
+standing near left q l = refl
 
 returns : tie.Need-returns
 returns c =
     let w = c .before .before .before in
-    c .with-quote .ensures
-    ∙ ap (with-line (entry w) (start w .args .place))
-    (c .before .before .quoted-line .ensures ∙ sym (λ j. quoted-line (read w j .near) (read w j .left) (start w .args .q) (sym (line-read w) j)))
+    let s = start w .args in
+    let stood = getD (entry w .lines) (s .place) blank in
+    c .with-judged .ensures
+    ∙ ap (with-line (entry w) (s .place))
+    (ap (λ (m : Line). with-judged stood (m .limits) (m .book) (m .holds))
+    (c .before .before .quoted-line .ensures ∙ sym (λ j. quoted-line (read w j .near) (read w j .left) (s .q) (sym (line-read w) j)))
+    ∙ standing (entry w .near) (entry w .left) (s .q) stood)
 
 pub quoted-spec : {M : Type 1} → statement M
 quoted-spec =
@@ -60,5 +65,5 @@ quoted-spec =
     head-requires
     line-at-requires
     quoted-line-requires
-    with-quote-requires
+    with-judged-requires
     returns)

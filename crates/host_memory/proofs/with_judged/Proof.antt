@@ -1,9 +1,9 @@
--- `host_memory::with_quote` meets its contract. Assumes nothing.
+-- `host_memory::with_judged` meets its contract. Assumes nothing.
 use borrow.Author.Needs.{needs}
 use denote.Ref.{now}
 use Rattle.host_memory.proofs.Places.{judged-stored}
-use Rattle.host_memory.proofs.with_quote.Statement.{statement}
-use Rattle.host_memory.proofs.with_quote.Tie as tie
+use Rattle.host_memory.proofs.with_judged.Statement.{statement}
+use Rattle.host_memory.proofs.with_judged.Tie as tie
 
 pairs-requires : tie.Need-pairs-requires
 pairs-requires c κs = search needs
@@ -33,11 +33,10 @@ returns : tie.Need-returns
 returns c =
     let r = c .before in
     let s = r .before .before .before .before in
-    judged-stored (now (s .args .memory)) (s .args .place) _ (s .args .l) (r .before .before .pairs .ensures .1) (r .rows .ensures .1) (s .pre .0)
-    (s .pre .1, s .pre .2) (c .judged-row .ensures)
+    judged-stored (now (s .args .memory)) (s .args .place) _ (r .before .before .pairs .ensures .1) (r .rows .ensures .1) (s .pre) (c .judged-row .ensures)
 
-pub with-quote-spec : {M : Type 1} → statement M
-with-quote-spec =
+pub with-judged-spec : {M : Type 1} → statement M
+with-judged-spec =
     tie.close
     (tie.spec
     pairs-requires
