@@ -223,9 +223,10 @@ pub struct Closing {
     pub upperbound: Steps,
 }
 
+// A refused event has its place in the buffer, counted from 1.
 pub enum Row {
     Shift(ShiftLine),
-    RefusedEvent(EventReason),
+    RefusedEvent(EventReason, usize),
     RefusedTable(TableReason, u32),
     Closed(Closing),
 }

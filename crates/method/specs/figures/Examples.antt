@@ -16,7 +16,7 @@ use Rattle.method.specs.words.Tables.{Opening, opened, refused, opening-
 use Rattle.method.specs.words.Pressure.{close, presses}
 use Rattle.method.specs.told.Refusals.{table-number, event-number, Said, event-said, mark, limits-said, place-said}
 use Rattle.method.specs.told.Questions.{listed, line-of, limits, placed, place}
-use Rattle.method.specs.told.Rows.{rows-of, rows-of-all, closing-row, row-numbers, numbers-of}
+use Rattle.method.specs.told.Rows.{rows-of, rows-from, closing-row, row-numbers, numbers-of}
 use Rattle.method.specs.told.Program.{pieces, events-of}
 use Rattle.method.specs.computed.Opening.{rates-good, fields-good, id-good, inside-bounds, opened-with, open-line}
 use Rattle.method.specs.computed.Table.{header-good, laid-out, key-good, bad-key, open-lines, open-records, opening}
@@ -153,7 +153,7 @@ examples =
     (tick 1_001 [])))))))))))))))
     -- A8. The end of the input: a hold with no event after it is not served; a cut last event is 12, and the closing row follows.
     ∷ figure one-closed (numbers-of (program (sample 1_000 2 one (bid 10 7 1_046 []))))
-    ∷ figure (map pos (2 ∷ 12 ∷ 0 ∷ 0 ∷ 0 ∷ 0 ∷ []) ++ one-closed)
+    ∷ figure (map pos (2 ∷ 12 ∷ 2 ∷ 0 ∷ 0 ∷ 0 ∷ []) ++ one-closed)
     (numbers-of (program (take 127 (sample 1_000 2 one (bid 10 7 1_046 (tick 70 []))))))
     ∷ figure (map pos (3 ∷ 1 ∷ 0 ∷ 0 ∷ 0 ∷ 0 ∷ [])) (numbers-of (program []))
     -- Closing rows of two contracts, in table order.
@@ -163,7 +163,7 @@ examples =
     ∷ figure (pos 2_967_698_281 ∷ [])
     (of-line (risen 16) (open-line (millionths 1_000_000) (key 500_000) [] (contract (pos 100_000_000) (pos 1) 1_000_000 0 0)))
     -- A12. The counts say where the table ends: one byte more is a cut event, and to `open` a wrong length; wrong offsets are 1.
-    ∷ figure (map pos (2 ∷ 12 ∷ 0 ∷ 0 ∷ 0 ∷ 0 ∷ []) ++ one-closed) (numbers-of (program (sample 1_000 2 one [] ++ (0 ∷ []))))
+    ∷ figure (map pos (2 ∷ 12 ∷ 1 ∷ 0 ∷ 0 ∷ 0 ∷ []) ++ one-closed) (numbers-of (program (sample 1_000 2 one [] ++ (0 ∷ []))))
     ∷ refusal 1 0 (sample 1_000 2 one [] ++ (0 ∷ []))
     ∷ refusal 1 0 (bytes (1 ∷ 1 ∷ 52 ∷ 1 ∷ 44 ∷ 1_000 ∷ 60 ∷ 2 ∷ 50_000 ∷ 500_000 ∷ 365 ∷ 0 ∷ sample-fields 500_000 7 2 []))
     -- A13. Frozen at opening: limits 37 and 1; its bound falls from -20 to -34.
@@ -232,5 +232,5 @@ examples =
 
 -- Every example is what the definitions give.
 pub examples-claim : map (λ f. f .computed) examples ≡ map (λ f. f .printed) examples
-unfolding word signed bit table-number between-keys rate-from rate-by-keys rate-at exponent term series up-factor down-factor factors-of factor interest outward bound rates-good fields-good listed id-good normal-price half-width market-of half-move terms-of corridor-half corridor inside-bounds floored fresh-line opened-with open-line header-of key-at contract-at keys-at contracts-at header-good laid-out key-good bad-key opening-state open-lines open-records opening close presses judged judge judge-line moved redrawn moved-line shift-line most-left shifted after read-tick read-quote read in-session not-crossed verdict quoted-line quoted applied next due-of ahead sooner passed earliest in-time next-due serve served-by answer run finally rows-of rows-of-all closing-row session-rows pieces rows-after program row-numbers event-number event-said limits-said place-said line-of limits placed place
+unfolding word signed bit table-number between-keys rate-from rate-by-keys rate-at exponent term series up-factor down-factor factors-of factor interest outward bound rates-good fields-good listed id-good normal-price half-width market-of half-move terms-of corridor-half corridor inside-bounds floored fresh-line opened-with open-line header-of key-at contract-at keys-at contracts-at header-good laid-out key-good bad-key opening-state open-lines open-records opening close presses judged judge judge-line moved redrawn moved-line shift-line most-left shifted after read-tick read-quote read in-session not-crossed verdict quoted-line quoted applied next due-of ahead sooner passed earliest in-time next-due serve served-by answer run finally rows-of rows-from closing-row session-rows pieces rows-after program row-numbers event-number event-said limits-said place-said line-of limits placed place
 examples-claim = refl

@@ -118,7 +118,7 @@ table-refusal (refused why line) = pos (table-number why) ∷ pos line ∷ []
 -- only the numbers of refused events among rows
 abbrev pub refusals : List Row → List ℤ
 refusals [] = []
-refusals (Row.RefusedEvent why ∷ rows) = pos (event-number why) ∷ refusals rows
+refusals (Row.RefusedEvent why place ∷ rows) = pos (event-number why) ∷ refusals rows
 refusals (Row.RefusedTable why line ∷ rows) = refusals rows
 refusals (Row.Shift c ∷ rows) = refusals rows
 refusals (Row.Closed c ∷ rows) = refusals rows
@@ -127,7 +127,7 @@ refusals (Row.Closed c ∷ rows) = refusals rows
 abbrev pub shifts : List Row → List ℤ
 shifts [] = []
 shifts (Row.Shift c ∷ rows) = pos (c .second .0) ∷ pos (side-number (c .side)) ∷ pos (c .id) ∷ shifts rows
-shifts (Row.RefusedEvent why ∷ rows) = shifts rows
+shifts (Row.RefusedEvent why place ∷ rows) = shifts rows
 shifts (Row.RefusedTable why line ∷ rows) = shifts rows
 shifts (Row.Closed c ∷ rows) = shifts rows
 

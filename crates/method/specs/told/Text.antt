@@ -50,7 +50,7 @@ side-letter Down = ascii "D"
 -- by its kind (METHOD 22.6)
 unfoldable pub line-text : Row → List ℕ
 line-text (Row.Shift c) = line-with (decimal (c .second .0) ∷ side-letter (c .side) ∷ decimal (c .id) ∷ [])
-line-text (Row.RefusedEvent why) = line-with (ascii "R" ∷ decimal (event-number why) ∷ [])
+line-text (Row.RefusedEvent why place) = line-with (ascii "R" ∷ decimal (event-number why) ∷ [])
 line-text (Row.RefusedTable why line) = line-with (ascii "T" ∷ decimal (table-number why) ∷ decimal line ∷ [])
 line-text (Row.Closed c) =
     line-with
