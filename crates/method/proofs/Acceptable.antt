@@ -5,7 +5,7 @@ use mathlib.Core.List.{List}
 use Prim.Native.Nat.{ℕ, _-_, _≤_}
 use native.Mathlib.Omega.{arith}
 use Rattle.numbers.proofs.Tests.{false-le, never-both}
-use Rattle.method.specs.words.Types.{Given, Line, ShiftLine, State, EventAnswer, steps}
+use Rattle.method.specs.words.Types.{Given, Line, ShiftLine, State, EventAnswer, steps, session-ids}
 use Rattle.method.specs.words.Wire.{word, signed}
 use Rattle.method.specs.words.Ranges.{Every}
 use Rattle.method.specs.words.Tables.{opened}
@@ -13,12 +13,12 @@ use Rattle.method.specs.words.Events.{InSession, IsCrossed, Unknown}
 use Rattle.method.specs.words.Books.{BookSaid}
 use Rattle.method.specs.words.Sessions.{Answer}
 use Rattle.method.specs.laws.Ticks.{Repeats}
-use Rattle.method.specs.told.Questions.{known}
+use Rattle.method.specs.told.Questions.{listed}
 use Rattle.method.specs.computed.Types.{Quote, Event, Damaged, Tick, Quoted}
 use Rattle.method.specs.computed.Table.{opening}
 use Rattle.method.specs.computed.Judge.{judge-line}
 use Rattle.method.specs.computed.Shift.{moved-line, shift-line, shifted}
-use Rattle.method.specs.computed.Event.{not-crossed, verdict, read, quoted-line, applied}
+use Rattle.method.specs.computed.Event.{not-crossed, screened, verdict, read, quoted-line, applied}
 use Rattle.method.specs.computed.Relation.{Answers, reached}
 use Rattle.method.specs.computed.Later.{Later, start, shift, event}
 use Rattle.method.specs.computed.Rooms.{LineIn}
@@ -38,14 +38,14 @@ unfolding not-crossed
 opened-open l r = rw (r .book)
 
 taken-open : (s : State) (q : Quote) → verdict s (Quoted q) ≡ EventAnswer.Accepted → not-crossed (q .bid) (q .ask) ≡ true
-unfolding verdict
+unfolding verdict screened
 taken-open s q v =
-    let its = met-by (known (q .id) s) not-accepted (in-session-met s (q .time) _ v .1) in
+    let its = met-by (listed (q .id) (session-ids s)) not-accepted (in-session-met s (q .time) _ v .1) in
     met-by (not-crossed (q .bid) (q .ask)) not-accepted (its .1) .0
 
 open-applied : (e : Event) (s : State) → verdict s e ≡ EventAnswer.Accepted → Every Open (s .lines) → Every Open (applied e s .lines)
 unfolding applied quoted-line judge-line
-open-applied Damaged s v ps = ps
+open-applied (Damaged why) s v ps = ps
 open-applied (Tick t) s v ps = ps
 open-applied (Quoted q) s v ps = every-quoted (s .near) (s .left) q Open (λ l p. taken-open s q v) (s .lines) ps
 

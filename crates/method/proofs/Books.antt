@@ -143,7 +143,7 @@ module _ (s : State) (b : List ℕ) where
       go : EventAnswered s b EventAnswer.Accepted → Each (BookLife b) (s .lines) (applied (read b) (after cs s) .lines)
       go (tick-taken t i) =
           rw (read-tick-is s b t)
-          (each-weaker SameBook (BookLife b) (λ o l a. untouched b o l (λ q. omega (arith, t .flags, q .quote .flags)) a) (s .lines) (after cs s .lines) rs)
+          (each-weaker SameBook (BookLife b) (λ o l a. untouched b o l (λ q. omega (arith, t .flags, q .quote .like .flags)) a) (s .lines) (after cs s .lines) rs)
       go (quote-taken q i k c) =
           rw (read-quote-is s b q)
           (quoted-books (after cs s .near) (after cs s .left) b q (s .lines) (after cs s .lines)

@@ -9,7 +9,7 @@ use Rattle.method.specs.words.Holds.{Stands, First, Done}
 use Rattle.method.specs.computed.Types.{Event, Damaged, Tick, Quoted}
 use Rattle.method.specs.computed.Head.{with-lines}
 use Rattle.method.specs.computed.Shift.{shifted, onward, after}
-use Rattle.method.specs.computed.Event.{in-session, verdict, applied}
+use Rattle.method.specs.computed.Event.{in-session, screened, verdict, applied}
 use Rattle.method.specs.computed.Relation.{Calls, time}
 use Rattle.method.proofs.Events.{not-accepted, in-session-met}
 
@@ -44,14 +44,14 @@ after-clock u (c ∷ cs) s = after-clock u cs (onward s c)
 
 -- ---- applying
 pub applied-anew : (u : Seconds) (e : Event) (s r : State) → verdict r e ≡ EventAnswer.Accepted → applied e (at-clock u s) ≡ applied e s
-unfolding applied verdict
-applied-anew u Damaged s r v = absurd (not-accepted v)
+unfolding applied verdict screened
+applied-anew u (Damaged why) s r v = absurd (not-accepted v)
 applied-anew u (Tick t) s r v = refl
 applied-anew u (Quoted q) s r v = refl
 
 -- ---- a verdict, at another clock
-in-session-clock : (u : Seconds) (s : State) (t : Seconds) (rest : EventAnswer) → u .0 ≤ t .0 → in-session s t rest ≡ EventAnswer.Accepted
-    → in-session (at-clock u s) t rest ≡ EventAnswer.Accepted
+in-session-clock : (u : Seconds) (s : State) (t : Seconds) (rest : EventAnswer) → u .0 ≤ t .0 → in-session (s .end) (s .clock) t rest ≡ EventAnswer.Accepted
+    → in-session (s .end) u t rest ≡ EventAnswer.Accepted
 unfolding in-session
 in-session-clock u s t rest h e =
     let met = in-session-met s t rest e in
@@ -59,7 +59,7 @@ in-session-clock u s t rest h e =
 
 pub verdict-clock : (u : Seconds) (s : State) (e : Event) → u .0 ≤ time e .0 → verdict s e ≡ EventAnswer.Accepted
     → verdict (at-clock u s) e ≡ EventAnswer.Accepted
-unfolding verdict
-verdict-clock u s Damaged h v = absurd (not-accepted v)
+unfolding verdict screened
+verdict-clock u s (Damaged why) h v = absurd (not-accepted v)
 verdict-clock u s (Tick t) h v = in-session-clock u s t _ h v
 verdict-clock u s (Quoted q) h v = in-session-clock u s (q .time) _ h v

@@ -6,12 +6,12 @@ use mathlib.Core.List.{List, [], _∷_}
 use Prim.Native.Nat.{ℕ}
 use lib.Dec.{eqb}
 use borrow.Author.Tests.{eqb-true, eqb-false, le-leb, lt-ltb, eq-eqb, ne-eqb}
-use Rattle.numbers.proofs.Tests.{both, both-true, never-both, le-true, true-le, range-in, span-in, within-in}
-use Rattle.method.specs.words.Types.{Header, Key, Contract, Factors, Market, Limits}
-use Rattle.method.specs.words.Ranges.{most-shifts, whole, largest-rate, most-days, permits-negative, HeaderIn, KeyIn, ContractIn, Every}
+use Rattle.numbers.proofs.Tests.{both, both-true, never-both, le-true, true-le, range-in}
+use Rattle.method.specs.words.Types.{Header, Key, Factors, Market, Limits}
+use Rattle.method.specs.words.Ranges.{most-shifts, largest-rate, HeaderIn, KeyIn, Every}
 use Rattle.method.specs.words.Tables.{Laid, InsideBounds}
 use Rattle.method.specs.told.Questions.{listed}
-use Rattle.method.specs.computed.Opening.{rates-good, fields-good, inside-bounds}
+use Rattle.method.specs.computed.Opening.{inside-bounds}
 use Rattle.method.specs.computed.Table.{header-good, laid-out, key-good}
 
 -- ---- a test that fails denies what it decides; one that decides it holds where that holds
@@ -54,24 +54,6 @@ laid-test h size r = both-true (both-true (eq-eqb _ _ (r .keys)) (eq-eqb _ _ (r 
 pub key-test : (before : ℕ) (k : Key) → KeyIn before k → key-good before k ≡ true
 unfolding key-good
 key-test before k r = both-true (both-true (range-in (r .days)) (lt-ltb before (k .days) (r .rising))) (le-leb (k .rate .0) largest-rate (r .rate))
-
-permitted-or : (p : Bool) {q : Bool} → (p ≡ false → q ≡ true) → (p || q) ≡ true
-permitted-or true f = refl
-permitted-or false f = f refl
-
-pub fields-test : (c : Contract) → ContractIn c → fields-good c ≡ true
-unfolding fields-good rates-good
-fields-test c r =
-    let rates =
-    both-true (both-true (both-true (both-true (range-in (r .rate1)) (range-in (r .rate2))) (le-leb _ _ (r .rising2))) (range-in (r .rate3)))
-    (le-leb _ _ (r .rising3)) in
-    both-true
-    (both-true
-    (both-true
-    (both-true
-    (both-true
-    (both-true (both-true (within-in (r .price)) (permitted-or (permits-negative (c .flags)) (λ n. true-le (r .positive n)))) (within-in (r .spot)))
-    (span-in (r .least))) rates) (le-leb (c .width .0) whole (r .width))) (le-leb (c .days) most-days (r .days))) (lt-ltb (c .flags) 4 (r .flags))
 
 pub inside-in : (f : Factors) (m : Market) (k : Limits) → inside-bounds f m k ≡ true → InsideBounds f m k
 unfolding inside-bounds

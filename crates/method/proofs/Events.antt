@@ -18,13 +18,13 @@ use Rattle.method.specs.computed.Types.{Event, Damaged, Tick, Quoted}
 use Rattle.method.specs.computed.Opening.{ids}
 use Rattle.method.specs.computed.Judge.{judge-line}
 use Rattle.method.specs.computed.Shift.{moved-line, shift-line, shifted, onward, after}
-use Rattle.method.specs.computed.Event.{price-good, price-of, read-tick, read-quote, read, in-session, verdict}
+use Rattle.method.specs.computed.Event.{zero-if-absent, in-if-present, price-of, read-tick, read-quote, read, in-session, screened, verdict}
 use Rattle.method.specs.computed.Relation.{time}
 use Rattle.method.specs.computed.Rooms.{PriceIn, EventIn}
 use Rattle.method.proofs.Demands.{met-by, by-demand, by-cond}
 
 -- ---- the prices that are read lie within 2,000,000,000
-price-in : (present : Bool) (z : ℤ) → price-good present z ≡ true → PriceIn (price-of present z)
+price-in : (present : Bool) (z : ℤ) → in-if-present present z ≡ true → PriceIn (price-of present z)
 unfolding PriceIn
 price-in true z e = in-span-true largest-quote z e
 price-in false z e = tt
@@ -36,11 +36,14 @@ tick-in t id bid ask = by-demand EventIn (eqb id 0 && same bid (pos 0) && same a
 quote-in : (t : Seconds) (id flags : ℕ) (bid ask : ℤ) → EventIn (read-quote t id flags bid ask)
 unfolding read-quote EventIn
 quote-in t id flags bid ask =
-    by-demand EventIn (ltb flags 4 && price-good (bit 0 flags) bid && price-good (bit 1 flags) ask)
-    (λ e. let last = both (ltb flags 4 && price-good (bit 0 flags) bid) (price-good (bit 1 flags) ask) e in
-    let first = both (ltb flags 4) (price-good (bit 0 flags) bid) (last .0) in
-    (price-in (bit 0 flags) bid (first .1), price-in (bit 1 flags) ask (last .1)))
-    (λ e. tt)
+    by-demand EventIn (ltb flags 4)
+    (λ l. by-demand EventIn (zero-if-absent (bit 0 flags) bid && zero-if-absent (bit 1 flags) ask)
+    (λ a. by-demand EventIn (in-if-present (bit 0 flags) bid && in-if-present (bit 1 flags) ask)
+    (λ e. let p = both (in-if-present (bit 0 flags) bid) (in-if-present (bit 1 flags) ask) e in
+    (price-in (bit 0 flags) bid (p .0), price-in (bit 1 flags) ask (p .1)))
+    (λ e. tt))
+    (λ a. tt))
+    (λ l. tt)
 
 pub read-in : (b : List ℕ) → EventIn (read b)
 unfolding read
@@ -54,7 +57,7 @@ read-in b =
 pub not-accepted : {why : EventReason} → EventAnswer.Refused why ≡ EventAnswer.Accepted → ⊥
 not-accepted e = let z : _≡_ {A = ℕ} 0 1 = cc in omega arith
 
-pub in-session-met : (s : State) (t : Seconds) (rest : EventAnswer) → in-session s t rest ≡ EventAnswer.Accepted
+pub in-session-met : (s : State) (t : Seconds) (rest : EventAnswer) → in-session (s .end) (s .clock) t rest ≡ EventAnswer.Accepted
     → Between (s .clock .0) (s .end .0) (t .0) × (rest ≡ EventAnswer.Accepted)
 unfolding in-session
 in-session-met s t rest e =
@@ -63,8 +66,8 @@ in-session-met s t rest e =
     (record { least = leb-true (s .clock .0) (t .0) (early .0); most = leb-true (t .0) (s .end .0) (late .0) }, early .1)
 
 pub on-time : (s : State) (e : Event) → verdict s e ≡ EventAnswer.Accepted → Between (s .clock .0) (s .end .0) (time e .0)
-unfolding verdict
-on-time s Damaged h = absurd (not-accepted h)
+unfolding verdict screened
+on-time s (Damaged why) h = absurd (not-accepted h)
 on-time s (Tick t) h = in-session-met s t _ h .0
 on-time s (Quoted q) h = in-session-met s (q .time) _ h .0
 
@@ -75,8 +78,8 @@ ids-shifted near left side now [] = refl
 ids-shifted near left side now (l ∷ ls) = ap (λ (js : List ℕ). l .terms .id ∷ js) (ids-shifted near left side now ls)
 
 verdict-shifted : (side : Side) (now : Seconds) (s : State) (e : Event) → verdict (shifted side now s) e ≡ verdict s e
-unfolding verdict in-session shifted
-verdict-shifted side now s Damaged = refl
+unfolding verdict screened in-session shifted
+verdict-shifted side now s (Damaged why) = refl
 verdict-shifted side now s (Tick t) = refl
 verdict-shifted side now s (Quoted q) = rw (ids-shifted (s .near) (s .left - 1) side now (s .lines))
 

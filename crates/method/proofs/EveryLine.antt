@@ -25,7 +25,7 @@ module _
 
   applied-keeps : (e : Event) (s : State) → Every P (s .lines) → Every P (applied e s .lines)
   unfolding applied
-  applied-keeps Damaged s h = h
+  applied-keeps (Damaged why) s h = h
   applied-keeps (Tick t) s h = h
   applied-keeps (Quoted q) s h = every-quoted (s .near) (s .left) q P (on-quote (s .near) (s .left) q) (s .lines) h
 

@@ -34,7 +34,7 @@ after-kept (c ∷ cs) s = table-on (onward-kept s c) (after-kept cs (onward s c)
 
 pub applied-kept : (e : Event) (s : State) → SameTable s (applied e s)
 unfolding applied
-applied-kept Damaged s = same-table s
+applied-kept (Damaged why) s = same-table s
 applied-kept (Tick t) s = with-lines-kept s _ _ _
 applied-kept (Quoted q) s = with-lines-kept s _ _ _
 
@@ -57,7 +57,7 @@ left-onward s c = refl
 
 pub left-applied : (e : Event) (s : State) → applied e s .left ≡ s .left
 unfolding applied
-left-applied Damaged s = refl
+left-applied (Damaged why) s = refl
 left-applied (Tick t) s = refl
 left-applied (Quoted q) s = refl
 
@@ -76,6 +76,6 @@ most-shifted side now s h = omega arith
 
 pub most-applied : (e : Event) (s : State) → most-left (applied e s) ≤ most-left s
 unfolding most-left applied
-most-applied Damaged s = omega arith
+most-applied (Damaged why) s = omega arith
 most-applied (Tick t) s = omega arith
 most-applied (Quoted q) s = omega arith

@@ -4,6 +4,7 @@ pub mod Growth
 pub mod Bounds
 pub mod Floor
 pub mod Corridor
+pub mod Fields
 pub mod Opening
 pub mod Head
 pub mod Table

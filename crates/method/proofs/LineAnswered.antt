@@ -14,11 +14,11 @@ use Rattle.method.specs.words.Opening.{exponent-of, terms-of, market-of,
 use Rattle.method.specs.words.Tables.{Fresh, its-terms, its-corridor, its-line, Good, Fault}
 use Rattle.method.specs.told.Questions.{listed}
 use Rattle.method.specs.computed.Types.{LineAnswer}
-use Rattle.method.specs.computed.Opening.{fields-good, id-good, inside-bounds, opened-with, open-line, ids}
+use Rattle.method.specs.computed.Opening.{id-good, inside-bounds, opened-with, open-line, ids}
 use Rattle.method.proofs.Every.{every-of-map, every-to-map}
-use Rattle.method.proofs.Opening.{contract-in}
 use Rattle.method.proofs.Demands.{by-demand}
-use Rattle.method.proofs.Decided.{denied, refuted, listed-not, not-listed, fields-test, inside-in, inside-test}
+use Rattle.method.proofs.Decided.{denied, refuted, listed-not, not-listed, inside-in, inside-test}
+use Rattle.method.proofs.Fields.{contract-test, first-named, by-fields}
 
 -- ---- the ids of the lines that contracts open are the contracts' own
 module _ (shift : Millionths) (keys : List Key) where
@@ -57,37 +57,37 @@ module _ (shift : Millionths) (keys : List Key) where
       let m = market-of c in
       let k = its-corridor shift keys c in
       let y = exponent-of keys c in
-      by-demand (LineAnswered earlier c) (fields-good c)
+      by-fields c (LineAnswered earlier c)
       (λ a. by-demand (LineAnswered earlier c) (id-good (lines-of earlier) (c .id))
       (λ b. by-demand (LineAnswered earlier c) (leb y most-exponent)
       (λ d. by-demand (LineAnswered earlier c) (leZ (pos 1) (t .halfmove .0))
       (λ e. by-demand (LineAnswered earlier c) (inside-bounds (t .factors) m k)
       (λ f. line-good (record {
-        fields = contract-in c a;
+        fields = a;
         id = fresh-in earlier (c .id) b;
         cap = leb-true y most-exponent d;
         moves = le-true (pos 1) (t .halfmove .0) e;
         inside = inside-in (t .factors) m k f;
       }))
-      (λ f. line-bad TableReason.Corridor (Fault.limit (contract-in c a) (fresh-in earlier (c .id) b) (leb-true y most-exponent d) (le-true (pos 1) (t .halfmove .0) e) (denied (inside-bounds (t .factors) m k) (inside-test (t .factors) m k) f))))
-      (λ e. line-bad TableReason.HalfMove (Fault.half-move (contract-in c a) (fresh-in earlier (c .id) b) (leb-true y most-exponent d) (le-false (pos 1) (t .halfmove .0) e))))
-      (λ d. line-bad TableReason.Exponent (Fault.exponent (contract-in c a) (fresh-in earlier (c .id) b) (leb-false y most-exponent d))))
-      (λ b. line-bad TableReason.Id (Fault.id (contract-in c a) (denied (id-good (lines-of earlier) (c .id)) (fresh-test earlier (c .id)) b))))
-      (λ a. line-bad TableReason.Field (Fault.field (denied (fields-good c) (fields-test c) a)))
+      (λ f. line-bad TableReason.Corridor (Fault.limit (a) (fresh-in earlier (c .id) b) (leb-true y most-exponent d) (le-true (pos 1) (t .halfmove .0) e) (denied (inside-bounds (t .factors) m k) (inside-test (t .factors) m k) f))))
+      (λ e. line-bad TableReason.HalfMove (Fault.half-move (a) (fresh-in earlier (c .id) b) (leb-true y most-exponent d) (le-false (pos 1) (t .halfmove .0) e))))
+      (λ d. line-bad TableReason.Exponent (Fault.exponent (a) (fresh-in earlier (c .id) b) (leb-false y most-exponent d))))
+      (λ b. line-bad TableReason.Id (Fault.id (a) (denied (id-good (lines-of earlier) (c .id)) (fresh-test earlier (c .id)) b))))
+      (λ before f rest e r n. line-bad (TableReason.Field f) (Fault.field before f rest e r n))
 
   pub line-opened : (earlier : List Contract) (c : Contract) → Good shift keys earlier c → open-line shift keys (lines-of earlier) c ≡ LineAnswer.Opened (its-line shift keys c)
   unfolding open-line opened-with
   line-opened earlier c g =
-      rw (fields-test c (g .fields), fresh-test earlier (c .id) (g .id), le-leb _ _ (g .cap), true-le (g .moves), inside-test _ _ _ (g .inside))
+      rw (contract-test c (g .fields), fresh-test earlier (c .id) (g .id), le-leb _ _ (g .cap), true-le (g .moves), inside-test _ _ _ (g .inside))
 
   pub line-refused : (earlier : List Contract) (c : Contract) {why : TableReason} → Fault shift keys earlier c why → open-line shift keys (lines-of earlier) c ≡ LineAnswer.Refused why
   unfolding open-line opened-with
-  line-refused earlier c (Fault.field f) = rw (refuted (fields-good c) (contract-in c) f)
-  line-refused earlier c (Fault.id a f) = rw (fields-test c a, refuted (id-good (lines-of earlier) (c .id)) (fresh-in earlier (c .id)) f)
-  line-refused earlier c (Fault.exponent a b f) = rw (fields-test c a, fresh-test earlier (c .id) b, lt-leb _ _ f)
-  line-refused earlier c (Fault.half-move a b d f) = rw (fields-test c a, fresh-test earlier (c .id) b, le-leb _ _ d, false-le f)
+  line-refused earlier c (Fault.field before f rest e r n) = rw (first-named c before f rest e r n)
+  line-refused earlier c (Fault.id a f) = rw (contract-test c a, refuted (id-good (lines-of earlier) (c .id)) (fresh-in earlier (c .id)) f)
+  line-refused earlier c (Fault.exponent a b f) = rw (contract-test c a, fresh-test earlier (c .id) b, lt-leb _ _ f)
+  line-refused earlier c (Fault.half-move a b d f) = rw (contract-test c a, fresh-test earlier (c .id) b, le-leb _ _ d, false-le f)
   line-refused earlier c (Fault.limit a b d e f) =
       let t = its-terms shift keys c in
       let m = market-of c in
       let k = its-corridor shift keys c in
-      rw (fields-test c a, fresh-test earlier (c .id) b, le-leb _ _ d, true-le e, refuted (inside-bounds (t .factors) m k) (inside-in (t .factors) m k) f)
+      rw (contract-test c a, fresh-test earlier (c .id) b, le-leb _ _ d, true-le e, refuted (inside-bounds (t .factors) m k) (inside-in (t .factors) m k) f)

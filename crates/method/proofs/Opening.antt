@@ -14,46 +14,17 @@ use Rattle.numbers.proofs.Halves.{zarith, apart, abs-is}
 use Rattle.numbers.proofs.Linear.{≤ℤ-trans}
 use Rattle.numbers.proofs.Rounding.{floor-mono, ceiling-mono}
 use Rattle.numbers.proofs.Tests.{both, lt-false, le-true, in-range-true, between-true, in-span-true}
-use Rattle.method.specs.words.Types.{Steps, Millionths, Key, Contract, Line, TableReason}
+use Rattle.method.specs.words.Types.{Steps, Millionths, Key, Contract, Line, Field, TableReason}
 use Rattle.method.specs.words.Ranges.{whole, most-days, largest-price, ContractIn}
 use Rattle.method.specs.words.Growth.{rate-at, exponent, most-exponent}
 use Rattle.method.specs.words.Opening.{normal-price, half-width, market-of, half-move, terms-of, corridor, fresh-line}
 use Rattle.method.specs.computed.Types.{LineAnswer}
-use Rattle.method.specs.computed.Opening.{rates-good, fields-good, id-good, inside-bounds, opened-with, open-line}
+use Rattle.method.specs.computed.Opening.{fields-answer, if-fields-good, id-good, inside-bounds, opened-with, open-line}
 use Rattle.method.specs.computed.Rooms.{largest-half-move, MarketIn, LineIn}
 use Rattle.method.proofs.Demands.{met-by}
+use Rattle.method.proofs.Fields.{by-fields}
 use Rattle.method.proofs.Growth.{factors-in}
 use Rattle.method.proofs.Corridor.{corridor-in}
-
--- ---- what the range tests tell of the ten fields
-pub contract-in : (c : Contract) → fields-good c ≡ true → ContractIn c
-unfolding fields-good rates-good
-contract-in c e =
-    let flags = both _ _ e in
-    let days = both _ _ (flags .0) in
-    let width = both _ _ (days .0) in
-    let rates = both _ _ (width .0) in
-    let rising3 = both _ _ (rates .1) in
-    let rate3 = both _ _ (rising3 .0) in
-    let rising2 = both _ _ (rate3 .0) in
-    let rate2 = both _ _ (rising2 .0) in
-    let least = both _ _ (rates .0) in
-    let spot = both _ _ (least .0) in
-    let price = both _ _ (spot .0) in
-    record {
-      price = in-span-true largest-price (c .price .0) (price .0);
-      positive = λ n. le-true (pos 1) (c .price .0) (rw n at (price .1));
-      spot = in-span-true largest-price (c .spot .0) (spot .1);
-      least = between-true (pos 1) (pos largest-price) (c .least .0) (least .1);
-      rate1 = in-range-true 1 whole (c .rate1 .0) (rate2 .0);
-      rate2 = in-range-true 1 whole (c .rate2 .0) (rate2 .1);
-      rate3 = in-range-true 1 whole (c .rate3 .0) (rate3 .1);
-      rising2 = leb-true (c .rate1 .0) (c .rate2 .0) (rising2 .1);
-      rising3 = leb-true (c .rate2 .0) (c .rate3 .0) (rising3 .1);
-      width = leb-true (c .width .0) whole (width .1);
-      days = leb-true (c .days) most-days (days .1);
-      flags = ltb-true (c .flags) 4 (flags .1);
-    }
 
 -- ---- a product of a number and a natural one, both in their ranges
 pub product-in : (z : ℤ) (n j k : ℕ) → Span (pos 1) (pos j) z → Between 1 k n → Span (pos 1) (pos (j * k)) (z *ℤ pos n)
@@ -72,10 +43,10 @@ unfolding normal-price
 normal-in c r = go (ltZ (pos (natAbs (c .spot .0))) (c .least .0)) refl
   where
     go : (b : Bool) → ltZ (pos (natAbs (c .spot .0))) (c .least .0) ≡ b → Span (pos 1) (pos largest-price) (cond b (c .least .0) (pos (natAbs (c .spot .0))))
-    go true e = r .least
+    go true e = r Field.Least
     go false e =
         let h = lt-false (pos (natAbs (c .spot .0))) (c .least .0) e in
-        record { least = omega (zarith, r .least .least); most = omega (zarith, abs-is (c .spot .0), apart (c .spot .0), r .spot) }
+        record { least = omega (zarith, r Field.Least .least); most = omega (zarith, abs-is (c .spot .0), apart (c .spot .0), r Field.Spot) }
 
 pub half-width-in : (c : Contract) (rate : Millionths) → ContractIn c → Between 1 whole (rate .0) → Span (pos 1) (pos largest-price) (half-width c rate .0)
 unfolding half-width
@@ -87,10 +58,10 @@ pub market-in : (c : Contract) → ContractIn c → MarketIn (market-of c)
 unfolding market-of
 market-in c r =
     record {
-      centre = r .price;
-      half1 = half-width-in c (c .rate1) r (r .rate1);
-      half2 = half-width-in c (c .rate2) r (r .rate2);
-      half3 = half-width-in c (c .rate3) r (r .rate3);
+      centre = r Field.Price .0;
+      half1 = half-width-in c (c .rate1) r (r Field.Rate1);
+      half2 = half-width-in c (c .rate2) r (r Field.Rate2 .0);
+      half3 = half-width-in c (c .rate3) r (r Field.Rate3 .0);
     }
 
 -- ---- the half-move
@@ -112,20 +83,26 @@ module _ (shift : Millionths) (y : ℕ) (c : Contract) (s : Between 1 whole (shi
         terms =
             record {
               id = id;
-              flags = r .flags;
-              halfmove = record { least = moves; most = half-move-most shift (half-width c (c .rate1)) s (half-width-in c (c .rate1) r (r .rate1)) };
+              flags = r Field.Flags;
+              halfmove = record { least = moves; most = half-move-most shift (half-width c (c .rate1)) s (half-width-in c (c .rate1) r (r Field.Rate1)) };
               factors = record { up = f .0; down = f .1 };
             };
         market = m;
         limits =
             corridor-in (c .width) (terms-of shift y c) (market-of c) (record { up = f .0; down = f .1 }) (≤ℤ-trans (omega zarith) (m .half1 .least))
-            (unfold market-of in r .positive) inside;
+            (unfold market-of in r Field.Price .1) inside;
         book = refl;
         holds = refl;
       }
 
 not-opened : {why : TableReason} {l : Line} → LineAnswer.Refused why ≡ LineAnswer.Opened l → ⊥
 not-opened e = let z : _≡_ {A = ℕ} 0 1 = cc in omega arith
+
+fields-met : (c : Contract) {onward : LineAnswer} {l : Line} → if-fields-good (fields-answer c) onward ≡ LineAnswer.Opened l
+    → ContractIn c × (onward ≡ LineAnswer.Opened l)
+fields-met c {onward} {l} =
+    by-fields c (λ a. a ≡ LineAnswer.Opened l → ContractIn c × (onward ≡ LineAnswer.Opened l)) (λ r e. (r, e))
+    (λ before f rest p r n e. absurd (not-opened e))
 
 same-line : {k l : Line} → LineAnswer.Opened k ≡ LineAnswer.Opened l → k ≡ l
 same-line e = cc
@@ -134,12 +111,12 @@ pub open-line-in : (shift : Millionths) (keys : List Key) (earlier : List Line) 
     → open-line shift keys earlier c ≡ LineAnswer.Opened l → LineIn l
 unfolding open-line opened-with id-good
 open-line-in shift keys earlier c l s e =
-    let fields = met-by (fields-good c) not-opened e in
+    let fields = fields-met c e in
     let id = met-by (id-good earlier (c .id)) not-opened (fields .1) in
     let y = exponent (rate-at keys (c .days)) (c .days) in
     let cap = met-by (leb y most-exponent) not-opened (id .1) in
     let moves = met-by (leZ (pos 1) (terms-of shift y c .halfmove .0)) not-opened (cap .1) in
     let inside = met-by (inside-bounds (terms-of shift y c .factors) (market-of c) (corridor (c .width) (terms-of shift y c .factors) (market-of c))) not-opened (moves .1) in
     subst LineIn (same-line (inside .1))
-    (line-in shift y c s (contract-in c (fields .0)) (ltb-true 0 (c .id) (both _ _ (id .0) .0)) (leb-true y most-exponent (cap .0))
+    (line-in shift y c s (fields .0) (ltb-true 0 (c .id) (both _ _ (id .0) .0)) (leb-true y most-exponent (cap .0))
     (le-true (pos 1) (terms-of shift y c .halfmove .0) (moves .0)) (inside .0))

@@ -13,7 +13,7 @@ use Rattle.method.specs.laws.Ticks.{NothingNew, tick, repeat}
 use Rattle.method.specs.computed.Types.{Quote, Event, Damaged, Tick, Quoted}
 use Rattle.method.specs.computed.Judge.{judge-line}
 use Rattle.method.specs.computed.Shift.{moved-line, shift-line, shifted, onward, after}
-use Rattle.method.specs.computed.Event.{price-of, read, verdict, with-book, quoted-line, quoted, applied}
+use Rattle.method.specs.computed.Event.{price-of, read, screened, verdict, with-book, quoted-line, quoted, applied}
 use Rattle.method.specs.computed.Relation.{time}
 use Rattle.method.specs.computed.Sound.{Exact}
 use Rattle.method.proofs.Every.{every-map, every-weaker}
@@ -32,7 +32,7 @@ abbrev SaidBefore : Quote → Line → Type 0
 SaidBefore q l = l .terms .id ≡ q .id → l .book ≡ book-of q
 
 unfoldable pub Still : State → Event → Type 0
-Still s Damaged = Unit {0}
+Still s (Damaged why) = Unit {0}
 Still s (Tick t) = Unit {0}
 Still s (Quoted q) = Every (SaidBefore q) (s .lines)
 
@@ -52,7 +52,7 @@ still-read s b (repeat r) =
 -- ---- a shift changes no id and no book
 still-onward : (e : Event) (s : State) (c : ShiftLine) → Still s e → Still (onward s c) e
 unfolding Still shifted shift-line judge-line moved-line
-still-onward Damaged s c h = tt
+still-onward (Damaged why) s c h = tt
 still-onward (Tick t) s c h = tt
 still-onward (Quoted q) s c h =
     every-map (SaidBefore q) (SaidBefore q) (shift-line (s .near) (s .left - 1) (c .side) (c .second)) (λ l k. k) (s .lines) h
@@ -82,7 +82,7 @@ module _ (near : Millionths) (left : ℕ) (q : Quote) where
       go false e more = cc
 
 pub still-applied : (e : Event) (s r : State) → verdict r e ≡ EventAnswer.Accepted → Judged s → Still s e → applied e s ≡ at-clock (time e) s
-unfolding applied verdict Still
-still-applied Damaged s r v x h = absurd (not-accepted v)
+unfolding applied verdict screened Still
+still-applied (Damaged why) s r v x h = absurd (not-accepted v)
 still-applied (Tick t) s r v x h = refl
 still-applied (Quoted q) s r v x h = rw (quoted-same (s .near) (s .left) q (s .lines) x h)

@@ -45,7 +45,7 @@ sane-shifted side now s h g v =
 
 pub sane-applied : (e : Event) (s : State) → verdict s e ≡ EventAnswer.Accepted → EventIn e → Sane s → Sane (applied e s)
 unfolding applied EventIn
-sane-applied Damaged s h i v = v
+sane-applied (Damaged why) s h i v = v
 sane-applied (Tick t) s h i v =
     let most = most-applied (Tick t) s in
     record {

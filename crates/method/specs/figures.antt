@@ -6,4 +6,5 @@ pub mod Fields
 pub mod Pressing
 pub mod Reported
 pub mod Edges
+pub mod Faults
 pub mod Printed

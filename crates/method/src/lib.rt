@@ -129,26 +129,41 @@ pub struct Due {
 
 // ---- refusals, and the answer to an event
 
-// Refusals 1 to 9, in the order of their numbers.
+// The fields of a contract that have a range, in the table's order: all but the id, which has a refusal of its own.
+pub enum Field {
+    Price,
+    Spot,
+    Least,
+    Rate1,
+    Rate2,
+    Rate3,
+    Width,
+    Days,
+    Flags,
+}
+
+// Refusals 1 to 9, in the order of their numbers; 5 names the field at fault.
 pub enum TableReason {
     Length,
     Edition,
     Header,
     Key,
-    Field,
+    Field(Field),
     Id,
     Exponent,
     HalfMove,
     Corridor,
 }
 
-// Refusals 10 to 14, in the order of their numbers.
+// Refusals 10 to 16, in the order of their numbers.
 pub enum EventReason {
     AfterEnd,
     BeforeClock,
     Malformed,
     UnknownId,
     Crossed,
+    AbsentNotZero,
+    PriceOutOfRange,
 }
 
 pub enum EventAnswer {
@@ -246,9 +261,9 @@ pub struct Quote {
     pub ask: Price,
 }
 
-// What a byte string says. `Damaged` is every one that is no event.
+// What a byte string says. `Damaged` is every one that is no event, with the refusal that says why.
 pub enum Event {
-    Damaged,
+    Damaged(EventReason),
     Tick(Seconds),
     Quoted(Quote),
 }
@@ -256,6 +271,12 @@ pub enum Event {
 pub enum Found {
     Nothing,
     At(Due),
+}
+
+// What the ranges of a contract's fields come to: all good, or the first field that is not.
+pub enum FieldsAnswer {
+    Good,
+    Bad(Field),
 }
 
 pub enum LineAnswer {

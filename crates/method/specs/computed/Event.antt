@@ -7,21 +7,25 @@ use lib.IntN.{ℤ, pos}
 use lib.ListN.{length}
 use lib.Signed.{leZ}
 use Rattle.numbers.specs.Tests.{in-span, same}
-use Rattle.method.specs.words.Types.{Millionths, Seconds, Price, Absent, Given, Line, EventReason, EventAnswer, steps, seconds, State}
+use Rattle.method.specs.words.Types.{Millionths, Seconds, Price, Absent, Given, Line, EventReason, EventAnswer, steps, seconds, State, session-ids}
 use Rattle.method.specs.words.Wire.{word, signed, bit}
 use Rattle.method.specs.words.Ranges.{largest-quote}
 use Rattle.method.specs.words.Sessions.{Answer, accepted, refused}
-use Rattle.method.specs.told.Questions.{known, demand}
+use Rattle.method.specs.told.Questions.{listed, demand}
 use Rattle.method.specs.computed.Types.{Quote, Event, Damaged, Tick, Quoted}
 use Rattle.method.specs.computed.Head.{with-lines}
 use Rattle.method.specs.computed.Judge.{judge-line}
 use Rattle.method.specs.computed.Shift.{after}
 
 -- ---- what a byte string says
--- a price field, present or absent
-abbrev pub price-good : Bool → ℤ → Bool
-price-good true z = in-span largest-quote z
-price-good false z = same z (pos 0)
+-- a price that is absent is 0, and one that is present lies in its range
+abbrev pub zero-if-absent : Bool → ℤ → Bool
+zero-if-absent true z = true
+zero-if-absent false z = same z (pos 0)
+
+abbrev pub in-if-present : Bool → ℤ → Bool
+in-if-present true z = in-span largest-quote z
+in-if-present false z = true
 
 abbrev pub price-of : Bool → ℤ → Price
 price-of true z = Given (steps z)
@@ -29,13 +33,15 @@ price-of false z = Absent
 
 -- a tick has nothing but its time and its flag (METHOD 12.1)
 unfoldable pub read-tick : Seconds → ℕ → ℤ → ℤ → Event
-read-tick time id bid ask = demand (eqb id 0 && same bid (pos 0) && same ask (pos 0)) Damaged (Tick time)
+read-tick time id bid ask = demand (eqb id 0 && same bid (pos 0) && same ask (pos 0)) (Damaged EventReason.Malformed) (Tick time)
 
 -- a quote has the prices that its flags say are there (METHOD 12.2)
 unfoldable pub read-quote : Seconds → ℕ → ℕ → ℤ → ℤ → Event
 read-quote time id flags bid ask =
-    demand (ltb flags 4 && price-good (bit 0 flags) bid && price-good (bit 1 flags) ask) Damaged
-    (Quoted (record { time = time; id = id; bid = price-of (bit 0 flags) bid; ask = price-of (bit 1 flags) ask }))
+    demand (ltb flags 4) (Damaged EventReason.Malformed)
+    (demand (zero-if-absent (bit 0 flags) bid && zero-if-absent (bit 1 flags) ask) (Damaged EventReason.AbsentNotZero)
+    (demand (in-if-present (bit 0 flags) bid && in-if-present (bit 1 flags) ask) (Damaged EventReason.PriceOutOfRange)
+    (Quoted (record { time = time; id = id; bid = price-of (bit 0 flags) bid; ask = price-of (bit 1 flags) ask }))))
 
 -- any other byte string is damaged (METHOD 12.3, 12.7)
 unfoldable pub read : List ℕ → Event
@@ -43,14 +49,14 @@ read b =
     let time : Seconds = seconds (word b 0) in
     let bid : ℤ = signed (word b 12) in
     let ask : ℤ = signed (word b 16) in
-    demand (eqb (length b) 20) Damaged
+    demand (eqb (length b) 20) (Damaged EventReason.Malformed)
     (cond (eqb (word b 8) 4) (read-tick time (word b 4) bid ask) (read-quote time (word b 4) (word b 8) bid ask))
 
--- ---- whether it is refused, test by test in the order of METHOD 20
-unfoldable pub in-session : State → Seconds → EventAnswer → EventAnswer
-in-session s time onward =
-    demand (leb (time .0) (s .end .0)) (EventAnswer.Refused EventReason.AfterEnd)
-    (demand (leb (s .clock .0) (time .0)) (EventAnswer.Refused EventReason.BeforeClock) onward)
+-- ---- whether it is refused, test by test in the order of METHOD 20: in a session of these ids, this end and this clock
+unfoldable pub in-session : Seconds → Seconds → Seconds → EventAnswer → EventAnswer
+in-session end clock time onward =
+    demand (leb (time .0) (end .0)) (EventAnswer.Refused EventReason.AfterEnd)
+    (demand (leb (clock .0) (time .0)) (EventAnswer.Refused EventReason.BeforeClock) onward)
 
 -- bid and ask, where both are there
 unfoldable pub not-crossed : Price → Price → Bool
@@ -58,13 +64,16 @@ not-crossed (Given bid) (Given ask) = leZ (bid .0) (ask .0)
 not-crossed (Given bid) Absent = true
 not-crossed Absent ask = true
 
-unfoldable pub verdict : State → Event → EventAnswer
-verdict s Damaged = EventAnswer.Refused EventReason.Malformed
-verdict s (Tick time) = in-session s time EventAnswer.Accepted
-verdict s (Quoted q) =
-    in-session s (q .time)
-    (demand (known (q .id) s) (EventAnswer.Refused EventReason.UnknownId)
+unfoldable pub screened : List ℕ → Seconds → Seconds → Event → EventAnswer
+screened ids end clock (Damaged why) = EventAnswer.Refused why
+screened ids end clock (Tick time) = in-session end clock time EventAnswer.Accepted
+screened ids end clock (Quoted q) =
+    in-session end clock (q .time)
+    (demand (listed (q .id) ids) (EventAnswer.Refused EventReason.UnknownId)
     (demand (not-crossed (q .bid) (q .ask)) (EventAnswer.Refused EventReason.Crossed) EventAnswer.Accepted))
+
+unfoldable pub verdict : State → Event → EventAnswer
+verdict s e = screened (session-ids s) (s .end) (s .clock) e
 
 -- ---- what an accepted one does, after the shifts that it calls for
 abbrev pub with-book : Line → Price → Price → Line
@@ -80,7 +89,7 @@ quoted near left q [] = []
 quoted near left q (l ∷ ls) = cond (eqb (l .terms .id) (q .id)) (quoted-line near left q l ∷ ls) (l ∷ quoted near left q ls)
 
 unfoldable pub applied : Event → State → State
-applied Damaged s = s
+applied (Damaged why) s = s
 applied (Tick time) s = with-lines s (s .lines) (s .left) time
 applied (Quoted q) s = with-lines s (quoted (s .near) (s .left) q (s .lines)) (s .left) (q .time)
 

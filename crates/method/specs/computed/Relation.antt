@@ -16,7 +16,7 @@ Calls t s [] = Done t s
 Calls t s (c ∷ cs) = First t s c × Calls t (onward s c) cs
 
 abbrev pub time : Event → Seconds
-time Damaged = seconds 0
+time (Damaged why) = seconds 0
 time (Tick t) = t
 time (Quoted q) = q .time
 

@@ -139,6 +139,6 @@ pub record Sane (s : State) : Type 0 where
   pub rooms : Every (Room (most-left s)) (s .lines)
 
 unfoldable pub EventIn : Event → Type 0
-EventIn Damaged = Unit {0}
+EventIn (Damaged why) = Unit {0}
 EventIn (Tick t) = Unit {0}
 EventIn (Quoted q) = PriceIn (q .bid) × PriceIn (q .ask)

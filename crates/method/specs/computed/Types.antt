@@ -7,6 +7,7 @@ pub use Rattle.method.specs.declared.Event.{Event}
 pub use Rattle.method.specs.declared.Event.the-variants.{Damaged, Tick, Quoted}
 pub use Rattle.method.specs.declared.Found.{Found}
 pub use Rattle.method.specs.declared.Found.the-variants.{Nothing, At}
+pub use Rattle.method.specs.declared.FieldsAnswer.{FieldsAnswer}
 pub use Rattle.method.specs.declared.LineAnswer.{LineAnswer}
 
 -- what stands past the last key of an array

@@ -14,16 +14,16 @@ use Rattle.method.specs.words.Bounds.{factor, interest, outward, bound}
 use Rattle.method.specs.words.Opening.{normal-price, half-width, market-of, half-move, terms-of, corridor-half, corridor, floored, fresh-line}
 use Rattle.method.specs.words.Tables.{Opening, opened, refused, opening-state}
 use Rattle.method.specs.words.Pressure.{close, presses}
-use Rattle.method.specs.told.Refusals.{table-number, event-number, Said, event-said, mark, limits-said, place-said}
+use Rattle.method.specs.told.Refusals.{table-number, field-place, field-number, event-number, Said, event-said, mark, limits-said, place-said}
 use Rattle.method.specs.told.Questions.{listed, line-of, limits, placed, place}
 use Rattle.method.specs.told.Rows.{rows-of, rows-from, closing-row, row-numbers, numbers-of}
 use Rattle.method.specs.told.Program.{pieces, events-of}
-use Rattle.method.specs.computed.Opening.{rates-good, fields-good, id-good, inside-bounds, opened-with, open-line}
+use Rattle.method.specs.computed.Opening.{field-good, first-bad, id-good, inside-bounds, opened-with, open-line}
 use Rattle.method.specs.computed.Table.{header-good, laid-out, key-good, bad-key, open-lines, open-records, opening}
 use Rattle.method.specs.computed.Head.{most-left}
 use Rattle.method.specs.computed.Judge.{judged, judge, judge-line}
 use Rattle.method.specs.computed.Shift.{moved, redrawn, moved-line, shift-line, shifted, after}
-use Rattle.method.specs.computed.Event.{read-tick, read-quote, read, in-session, not-crossed, verdict, quoted-line, quoted, applied, next}
+use Rattle.method.specs.computed.Event.{read-tick, read-quote, read, in-session, not-crossed, screened, verdict, quoted-line, quoted, applied, next}
 use Rattle.method.specs.computed.Search.{due-of, ahead, sooner, passed, earliest, in-time, next-due, serve, served-by, answer, run, finally}
 use Rattle.method.specs.computed.Program.{session-rows, rows-after, program}
 use Rattle.method.specs.figures.Inputs.{bytes, sample-fields, table, sample, thirty, event, tick, empty, bid, ask, fields, contract, key, line, raw-lower, of-line, bounds, both-limits, shifted-down, table-refusal, refusals, shifts, Figure, figure}
@@ -89,9 +89,12 @@ abbrev risen : ℕ → Line → List ℤ
 risen zero l = bound Up (l .terms .factors) (l .market) ∷ []
 risen (suc n) l = risen n (moved-line Up l)
 
--- a table of these bytes is refused with this number and line
+-- a table of these bytes is refused with this number and line, and names no field; or with 5 on this line, for the field at this place
 abbrev refusal : ℕ → ℕ → List ℕ → Figure
-refusal number line input = figure (pos number ∷ pos line ∷ []) (table-refusal (opening input))
+refusal number line input = figure (pos number ∷ pos line ∷ pos 0 ∷ []) (table-refusal (opening input))
+
+abbrev at-fault : ℕ → ℕ → List ℕ → Figure
+at-fault line field input = figure (pos 5 ∷ pos line ∷ pos field ∷ []) (table-refusal (opening input))
 
 -- a header alone: edition, contracts, keys, session end, and how many of its bytes there are
 abbrev header : ℕ → ℕ → ℕ → ℕ → ℕ → List ℕ
@@ -129,13 +132,13 @@ examples =
     ∷ refusal 4 1 (table 1_000 2 1 1 (0 ∷ 0 ∷ sample-fields 500_000 7 2 []))
     ∷ refusal 4 2 (table 1_000 2 1 2 (90 ∷ 0 ∷ 90 ∷ 0 ∷ sample-fields 500_000 7 4 []))
     ∷ refusal 9 1 (table 1_000 2 2 1 (365 ∷ 100_000 ∷ sample-fields 1_000_000 7 2 (sample-fields 500_000 8 4 [])))
-    ∷ refusal 5 2 (table 1_000 2 2 1 (365 ∷ 0 ∷ sample-fields 500_000 7 2 (sample-fields 500_000 7 4 [])))
+    ∷ at-fault 2 10 (table 1_000 2 2 1 (365 ∷ 0 ∷ sample-fields 500_000 7 2 (sample-fields 500_000 7 4 [])))
     ∷ refusal 6 2 (table 1_000 2 2 1 (365 ∷ 0 ∷ sample-fields 500_000 7 2 (sample-fields 500_000 7 2 [])))
     ∷ refusal 6 1 (table 1_000 2 1 1 (365 ∷ 0 ∷ sample-fields 500_000 0 2 []))
     -- A5. The order of an event's refusals, the clock at 10. Unknown id before the clock: 11. Flags 8 after the end: 12. Unknown id after the
-    -- end: 10. Flags 5: 12. Id 0: 13. Bid equal to ask: taken; above it: 14. A price out of range: 12; one at its end: taken. At session end:
+    -- end: 10. Flags 5: 12. Id 0: 13. Bid equal to ask: taken; above it: 14. A price out of range: 16; one at its end: taken. At session end:
     -- taken; a second later: 10.
-    ∷ figure (map pos (11 ∷ 12 ∷ 10 ∷ 12 ∷ 13 ∷ 14 ∷ 12 ∷ 10 ∷ []))
+    ∷ figure (map pos (11 ∷ 12 ∷ 10 ∷ 12 ∷ 13 ∷ 14 ∷ 16 ∷ 10 ∷ []))
     (refusals
     (program
     (sample 1_000 2 one
@@ -151,6 +154,20 @@ examples =
     (ask 10 7 2_000_000_000
     (tick 1_000
     (tick 1_001 [])))))))))))))))
+    -- Flags 1, a bid out of range and an ask of 7: 15; with an ask of 0: 16. Flags 5 with both: 12. A tick with a bid: 12. Both 15 and 16 come
+    -- before the end, the clock and an unknown id.
+    ∷ figure (map pos (15 ∷ 16 ∷ 12 ∷ 12 ∷ 15 ∷ 16 ∷ 16 ∷ []))
+    (refusals
+    (program
+    (sample 1_000 2 one
+    (tick 10
+    (event 10 7 1 2_100_000_000 7
+    (event 10 7 1 2_100_000_000 0
+    (event 10 7 5 2_100_000_000 7
+    (event 10 0 4 1 0
+    (event 2_000 9 0 0 7
+    (event 5 9 2 0 2_000_000_001
+    (event 10 7 3 2_000_000_001 1_000 [])))))))))))
     -- A8. The end of the input: a hold with no event after it is not served; a cut last event is 12, and the closing row follows.
     ∷ figure one-closed (numbers-of (program (sample 1_000 2 one (bid 10 7 1_046 []))))
     ∷ figure (map pos (2 ∷ 12 ∷ 2 ∷ 0 ∷ 0 ∷ 0 ∷ []) ++ one-closed)
@@ -232,5 +249,5 @@ examples =
 
 -- Every example is what the definitions give.
 pub examples-claim : map (λ f. f .computed) examples ≡ map (λ f. f .printed) examples
-unfolding word signed bit table-number between-keys rate-from rate-by-keys rate-at exponent term series up-factor down-factor factors-of factor interest outward bound rates-good fields-good listed id-good normal-price half-width market-of half-move terms-of corridor-half corridor inside-bounds floored fresh-line opened-with open-line header-of key-at contract-at keys-at contracts-at header-good laid-out key-good bad-key opening-state open-lines open-records opening close presses judged judge judge-line moved redrawn moved-line shift-line most-left shifted after read-tick read-quote read in-session not-crossed verdict quoted-line quoted applied next due-of ahead sooner passed earliest in-time next-due serve served-by answer run finally rows-of rows-from closing-row session-rows pieces rows-after program row-numbers event-number event-said limits-said place-said line-of limits placed place
+unfolding word signed bit table-number field-place field-number between-keys rate-from rate-by-keys rate-at exponent term series up-factor down-factor factors-of factor interest outward bound field-good first-bad listed id-good normal-price half-width market-of half-move terms-of corridor-half corridor inside-bounds floored fresh-line opened-with open-line header-of key-at contract-at keys-at contracts-at header-good laid-out key-good bad-key opening-state open-lines open-records opening close presses judged judge judge-line moved redrawn moved-line shift-line most-left shifted after read-tick read-quote read in-session not-crossed screened verdict quoted-line quoted applied next due-of ahead sooner passed earliest in-time next-due serve served-by answer run finally rows-of rows-from closing-row session-rows pieces rows-after program row-numbers event-number event-said limits-said place-said line-of limits placed place
 examples-claim = refl

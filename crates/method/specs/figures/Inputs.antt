@@ -9,7 +9,7 @@ use Rattle.method.specs.words.Bounds.{bound}
 use Rattle.method.specs.words.Opening.{market-of, corridor}
 use Rattle.method.specs.words.Tables.{Opening, opened, refused}
 use Rattle.method.specs.told.Types.{Row}
-use Rattle.method.specs.told.Refusals.{table-number, event-number, mark}
+use Rattle.method.specs.told.Refusals.{table-number, field-number, event-number, mark}
 use Rattle.method.specs.told.Rows.{side-number}
 use Rattle.method.specs.computed.Types.{LineAnswer}
 use Rattle.method.specs.computed.Opening.{open-line}
@@ -110,10 +110,10 @@ shifted-down l =
     l .terms .halfmove .0
     ∷ n .market .centre .0 ∷ n .market .half1 .0 ∷ bound Down (n .terms .factors) (n .market) ∷ n .limits .lower .0 ∷ mark (n .limits .frozen) ∷ []
 
--- a table's number and line, or nothing where it opens
+-- a table's number, its line and its field, or nothing where it opens
 abbrev pub table-refusal : Opening → List ℤ
 table-refusal (opened s) = []
-table-refusal (refused why line) = pos (table-number why) ∷ pos line ∷ []
+table-refusal (refused why line) = pos (table-number why) ∷ pos line ∷ pos (field-number why) ∷ []
 
 -- only the numbers of refused events among rows
 abbrev pub refusals : List Row → List ℤ

@@ -4,7 +4,7 @@ use mathlib.Core.Bool.{Bool, true, false}
 use mathlib.Core.List.{List, [], _∷_, _++_}
 use Prim.Native.Nat.{ℕ}
 use lib.IntN.{ℤ, pos, negsuc}
-use Rattle.method.specs.words.Types.{Limits, Price, Absent, Given, TableReason, EventReason, EventAnswer}
+use Rattle.method.specs.words.Types.{Limits, Price, Absent, Given, Field, TableReason, EventReason, EventAnswer}
 use Rattle.method.specs.told.Types.{TableAnswer, LimitsAnswer, PlaceAnswer, Below, Inside, Above, BothBounds, HoldReport, NoHold, Holding, Report, ReportAnswer}
 
 unfoldable pub table-number : TableReason → ℕ
@@ -12,11 +12,35 @@ table-number TableReason.Length = 1
 table-number TableReason.Edition = 2
 table-number TableReason.Header = 3
 table-number TableReason.Key = 4
-table-number TableReason.Field = 5
+table-number (TableReason.Field f) = 5
 table-number TableReason.Id = 6
 table-number TableReason.Exponent = 7
 table-number TableReason.HalfMove = 8
 table-number TableReason.Corridor = 9
+
+-- the place of a field in the contract's line; the id has place 9
+unfoldable pub field-place : Field → ℕ
+field-place Field.Price = 1
+field-place Field.Spot = 2
+field-place Field.Least = 3
+field-place Field.Rate1 = 4
+field-place Field.Rate2 = 5
+field-place Field.Rate3 = 6
+field-place Field.Width = 7
+field-place Field.Days = 8
+field-place Field.Flags = 10
+
+-- that of the field at fault, and 0 where no field is named
+unfoldable pub field-number : TableReason → ℕ
+field-number TableReason.Length = 0
+field-number TableReason.Edition = 0
+field-number TableReason.Header = 0
+field-number TableReason.Key = 0
+field-number (TableReason.Field f) = field-place f
+field-number TableReason.Id = 0
+field-number TableReason.Exponent = 0
+field-number TableReason.HalfMove = 0
+field-number TableReason.Corridor = 0
 
 unfoldable pub event-number : EventReason → ℕ
 event-number EventReason.AfterEnd = 10
@@ -24,15 +48,17 @@ event-number EventReason.BeforeClock = 11
 event-number EventReason.Malformed = 12
 event-number EventReason.UnknownId = 13
 event-number EventReason.Crossed = 14
+event-number EventReason.AbsentNotZero = 15
+event-number EventReason.PriceOutOfRange = 16
 
 pub record Said : Type 0 where
   pub number : ℕ
   pub values : List ℤ
 
--- a table's refusal has its line
+-- a table's refusal has its line and its field
 unfoldable pub table-said : TableAnswer → Said
 table-said TableAnswer.Opened = record { number = 0; values = [] }
-table-said (TableAnswer.Refused why line) = record { number = table-number why; values = pos line ∷ [] }
+table-said (TableAnswer.Refused why line) = record { number = table-number why; values = pos line ∷ pos (field-number why) ∷ [] }
 
 unfoldable pub event-said : EventAnswer → Said
 event-said EventAnswer.Accepted = record { number = 0; values = [] }

@@ -6,7 +6,7 @@ use Rattle.method.specs.words.Types.{Side, Up, Down, Line, steps}
 use Rattle.method.specs.words.Bounds.{bound}
 use Rattle.method.specs.words.Sessions.{Answer, accepted, refused}
 use Rattle.method.specs.told.Types.{Row}
-use Rattle.method.specs.told.Refusals.{table-number, event-number}
+use Rattle.method.specs.told.Refusals.{table-number, field-number, event-number}
 
 -- ---- the rows of an answer, and of all answers: one for each shift, and one for each refused event, with its place (METHOD 22.4)
 -- of the answer to the event at a place
@@ -42,7 +42,7 @@ side-number Down = 1
 unfoldable pub row-numbers : Row → List ℤ
 row-numbers (Row.Shift c) = pos 1 ∷ pos (c .second .0) ∷ pos (side-number (c .side)) ∷ pos (c .id) ∷ pos 0 ∷ pos 0 ∷ []
 row-numbers (Row.RefusedEvent why place) = pos 2 ∷ pos (event-number why) ∷ pos place ∷ pos 0 ∷ pos 0 ∷ pos 0 ∷ []
-row-numbers (Row.RefusedTable why line) = pos 3 ∷ pos (table-number why) ∷ pos line ∷ pos 0 ∷ pos 0 ∷ pos 0 ∷ []
+row-numbers (Row.RefusedTable why line) = pos 3 ∷ pos (table-number why) ∷ pos line ∷ pos (field-number why) ∷ pos 0 ∷ pos 0 ∷ []
 row-numbers (Row.Closed c) =
     pos 4 ∷ pos (c .id) ∷ c .lower .0 ∷ c .upper .0 ∷ c .lowerbound .0 ∷ c .upperbound .0 ∷ []
 

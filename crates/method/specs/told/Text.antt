@@ -9,7 +9,7 @@ use lib.Dec.{ltb}
 use lib.IntN.{ℤ, pos, negsuc}
 use Rattle.method.specs.words.Types.{Side, Up, Down}
 use Rattle.method.specs.told.Types.{Row}
-use Rattle.method.specs.told.Refusals.{table-number, event-number}
+use Rattle.method.specs.told.Refusals.{table-number, field-number, event-number}
 use Rattle.method.specs.told.Program.{Prints}
 
 -- a text in quotes as bytes: every letter in this file is one byte, its code
@@ -47,11 +47,16 @@ abbrev pub side-letter : Side → List ℕ
 side-letter Up = ascii "U"
 side-letter Down = ascii "D"
 
+-- the place of the field at fault, where one is named
+abbrev pub field-text : ℕ → List (List ℕ)
+field-text zero = []
+field-text (suc n) = decimal (suc n) ∷ []
+
 -- by its kind (METHOD 22.6)
 unfoldable pub line-text : Row → List ℕ
 line-text (Row.Shift c) = line-with (decimal (c .second .0) ∷ side-letter (c .side) ∷ decimal (c .id) ∷ [])
 line-text (Row.RefusedEvent why place) = line-with (ascii "R" ∷ decimal (event-number why) ∷ [])
-line-text (Row.RefusedTable why line) = line-with (ascii "T" ∷ decimal (table-number why) ∷ decimal line ∷ [])
+line-text (Row.RefusedTable why line) = line-with (ascii "T" ∷ decimal (table-number why) ∷ decimal line ∷ field-text (field-number why))
 line-text (Row.Closed c) =
     line-with
     (decimal (c .id)

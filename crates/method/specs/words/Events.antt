@@ -1,9 +1,9 @@
 -- What a byte string has to be to be an event (METHOD 12), and which answer it has in a state (METHOD 20).
-use mathlib.Core.Bool.{Bool, true, false}
+use mathlib.Core.Bool.{true, false}
 use mathlib.Core.List.{List}
 use mathlib.Core.Path.{_≡_}
 use Prim.Native.Nat.{ℕ, _≤_, _<_}
-use lib.IntN.{ℤ, pos}
+use lib.IntN.{pos}
 use lib.ListN.{length}
 use lib.Signed.{_<ℤ_}
 use Rattle.numbers.specs.Ranges.{Within}
@@ -12,11 +12,6 @@ use Rattle.method.specs.words.Wire.{word, signed, bit}
 use Rattle.method.specs.words.Ranges.{largest-quote, Every}
 
 -- ---- a byte string that is an event (METHOD 12)
--- a price field: 0 where its flag does not say present
-pub record PriceField (present : Bool) (z : ℤ) : Type 0 where
-  pub in-range : present ≡ true → Within largest-quote z
-  pub absent : present ≡ false → z ≡ pos 0
-
 pub record IsTick (b : List ℕ) : Type 0 where
   pub whole : length b ≡ 20
   pub flags : word b 8 ≡ 4
@@ -24,11 +19,25 @@ pub record IsTick (b : List ℕ) : Type 0 where
   pub bid : signed (word b 12) ≡ pos 0
   pub ask : signed (word b 16) ≡ pos 0
 
-pub record IsQuote (b : List ℕ) : Type 0 where
+-- a quote as far as its length and its flags go
+pub record QuoteLike (b : List ℕ) : Type 0 where
   pub whole : length b ≡ 20
   pub flags : word b 8 < 4
-  pub bid : PriceField (bit 0 (word b 8)) (signed (word b 12))
-  pub ask : PriceField (bit 1 (word b 8)) (signed (word b 16))
+
+-- a price whose flag does not say present is 0,
+pub record AbsentZero (b : List ℕ) : Type 0 where
+  pub bid : bit 0 (word b 8) ≡ false → signed (word b 12) ≡ pos 0
+  pub ask : bit 1 (word b 8) ≡ false → signed (word b 16) ≡ pos 0
+
+-- and one that is present lies in its range
+pub record PricesIn (b : List ℕ) : Type 0 where
+  pub bid : bit 0 (word b 8) ≡ true → Within largest-quote (signed (word b 12))
+  pub ask : bit 1 (word b 8) ≡ true → Within largest-quote (signed (word b 16))
+
+pub record IsQuote (b : List ℕ) : Type 0 where
+  pub like : QuoteLike b
+  pub absent : AbsentZero b
+  pub prices : PricesIn b
 
 pub data IsEvent (b : List ℕ) : Type 0 where
   tick : IsTick b → IsEvent b
@@ -51,7 +60,11 @@ pub record IsCrossed (b : List ℕ) : Type 0 where
 -- ---- the answer to an event in state s: one clause for each way, and together they leave exactly one answer (METHOD 20)
 pub data EventAnswered (s : State) (b : List ℕ) : EventAnswer → Type 0 where
   -- refusal 12
-  no-event : (IsEvent b → ⊥) → EventAnswered s b (EventAnswer.Refused EventReason.Malformed)
+  no-event : (IsTick b → ⊥) → (QuoteLike b → ⊥) → EventAnswered s b (EventAnswer.Refused EventReason.Malformed)
+  -- 15
+  absent-not-zero : QuoteLike b → (AbsentZero b → ⊥) → EventAnswered s b (EventAnswer.Refused EventReason.AbsentNotZero)
+  -- 16
+  price-out-of-range : QuoteLike b → AbsentZero b → (PricesIn b → ⊥) → EventAnswered s b (EventAnswer.Refused EventReason.PriceOutOfRange)
   -- 10
   after-end : IsEvent b → s .end .0 < word b 0 → EventAnswered s b (EventAnswer.Refused EventReason.AfterEnd)
   -- 11

@@ -6,7 +6,7 @@ use Prim.Native.Nat.{ℕ, _≤_, _<_}
 use lib.IntN.{pos}
 use lib.Signed.{_≤ℤ_}
 use Rattle.numbers.specs.Ranges.{Within, Between, Span}
-use Rattle.method.specs.words.Types.{Header, Key, Contract}
+use Rattle.method.specs.words.Types.{Header, Key, Contract, Field}
 use Rattle.method.specs.words.Wire.{bit}
 
 -- ---- the ends of ranges; the exponent's is `most-exponent`. But for the sizes of arrays no contract, law or proof has these numbers, and
@@ -76,20 +76,25 @@ unfoldable pub KeysIn : ℕ → List Key → Type 0
 KeysIn before [] = Unit {0}
 KeysIn before (k ∷ keys) = KeyIn before k × KeysIn (k .days) keys
 
--- ---- a contract, its id aside (METHOD 3.3)
-pub record ContractIn (c : Contract) : Type 0 where
-  pub price : Within largest-price (c .price .0)
-  pub positive : permits-negative (c .flags) ≡ false → pos 1 ≤ℤ (c .price .0)
-  pub spot : Within largest-price (c .spot .0)
-  pub least : Span (pos 1) (pos largest-price) (c .least .0)
-  pub rate1 : Between 1 whole (c .rate1 .0)
-  pub rate2 : Between 1 whole (c .rate2 .0)
-  pub rate3 : Between 1 whole (c .rate3 .0)
-  pub rising2 : c .rate1 .0 ≤ c .rate2 .0
-  pub rising3 : c .rate2 .0 ≤ c .rate3 .0
-  pub width : c .width .0 ≤ whole
-  pub days : c .days ≤ most-days
-  pub flags : c .flags < 4
+-- ---- a contract, its id aside: what is asked of each field (METHOD 3.3)
+abbrev pub FieldIn : Field → Contract → Type 0
+FieldIn Field.Price c = Within largest-price (c .price .0) × (permits-negative (c .flags) ≡ false → pos 1 ≤ℤ (c .price .0))
+FieldIn Field.Spot c = Within largest-price (c .spot .0)
+FieldIn Field.Least c = Span (pos 1) (pos largest-price) (c .least .0)
+FieldIn Field.Rate1 c = Between 1 whole (c .rate1 .0)
+FieldIn Field.Rate2 c = Between 1 whole (c .rate2 .0) × (c .rate1 .0 ≤ c .rate2 .0)
+FieldIn Field.Rate3 c = Between 1 whole (c .rate3 .0) × (c .rate2 .0 ≤ c .rate3 .0)
+FieldIn Field.Width c = c .width .0 ≤ whole
+FieldIn Field.Days c = c .days ≤ most-days
+FieldIn Field.Flags c = c .flags < 4
+
+abbrev pub ContractIn : Contract → Type 0
+ContractIn c = (f : Field) → FieldIn f c
+
+-- the fields in the order of their places in the line
+abbrev pub contract-fields : List Field
+contract-fields =
+    Field.Price ∷ Field.Spot ∷ Field.Least ∷ Field.Rate1 ∷ Field.Rate2 ∷ Field.Rate3 ∷ Field.Width ∷ Field.Days ∷ Field.Flags ∷ []
 
 -- ---- of each element of a list
 unfoldable pub Every : {A : Type 0} → (A → Type 0) → List A → Type 0

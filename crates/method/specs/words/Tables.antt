@@ -6,9 +6,9 @@ use Prim.Native.Nat.{ℕ, _≤_, _<_, suc}
 use lib.IntN.{pos}
 use lib.ListN.{length}
 use lib.Signed.{_≤ℤ_, _<ℤ_}
-use Rattle.method.specs.words.Types.{Millionths, Header, Key, Contract, Up, Down, Factors, Terms, Market, Limits, Line, TableReason, seconds, State}
+use Rattle.method.specs.words.Types.{Millionths, Header, Key, Contract, Up, Down, Factors, Terms, Market, Limits, Line, Field, TableReason, seconds, State}
 use Rattle.method.specs.words.Layout.{header-of, contracts-start, table-length, keys-at, contracts-at}
-use Rattle.method.specs.words.Ranges.{HeaderIn, KeyIn, KeysIn, ContractIn, Every}
+use Rattle.method.specs.words.Ranges.{HeaderIn, KeyIn, KeysIn, FieldIn, ContractIn, contract-fields, Every}
 use Rattle.method.specs.words.Growth.{most-exponent}
 use Rattle.method.specs.words.Bounds.{bound}
 use Rattle.method.specs.words.Opening.{market-of, terms-of, corridor, fresh-line, exponent-of}
@@ -67,9 +67,11 @@ module _ (shift : Millionths) (keys : List Key) where
   GoodAll earlier [] = Unit {0}
   GoodAll earlier (c ∷ cs) = Good earlier c × GoodAll (earlier ++ (c ∷ [])) cs
 
-  -- refusals 5 to 9, in this order: each fault where none before it stands
+  -- refusals 5 to 9, in this order: each fault where none before it stands, and of the fields the first that is out of its range
   pub data Fault (earlier : List Contract) (c : Contract) : TableReason → Type 0 where
-    field : (ContractIn c → ⊥) → Fault earlier c TableReason.Field
+    field :
+        (before : List Field) (f : Field) (rest : List Field) → contract-fields ≡ before ++ f ∷ rest → Every (λ e. FieldIn e c) before → (FieldIn f c → ⊥)
+        → Fault earlier c (TableReason.Field f)
     id : ContractIn c → (Fresh earlier (c .id) → ⊥) → Fault earlier c TableReason.Id
     exponent : ContractIn c → Fresh earlier (c .id) → most-exponent < exponent-of keys c → Fault earlier c TableReason.Exponent
     half-move :

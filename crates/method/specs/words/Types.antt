@@ -26,6 +26,7 @@ pub use Rattle.method.specs.declared.Holds.{Holds}
 pub use Rattle.method.specs.declared.Line.{Line}
 pub use Rattle.method.specs.declared.ShiftLine.{ShiftLine}
 pub use Rattle.method.specs.declared.Due.{Due}
+pub use Rattle.method.specs.declared.Field.{Field}
 pub use Rattle.method.specs.declared.TableReason.{TableReason}
 pub use Rattle.method.specs.declared.EventReason.{EventReason}
 pub use Rattle.method.specs.declared.EventAnswer.{EventAnswer}
