@@ -1,19 +1,24 @@
 // What the records of a morning table must keep to: the tests behind refusals 1, 3, 4 and 5.
 
 ghost use mathlib.Core.Path.{_≡_};
-ghost use mathlib.Core.Bool.{_||_};
+ghost use mathlib.Core.Bool.{_&&_, _||_};
 ghost use Prim.Native.Nat.{_≤_};
+ghost use lib.Dec.{leb};
 ghost use lib.IntN.{pos};
 ghost use lib.ListN.{take};
 ghost use lib.Signed.{leZ};
+ghost use Rattle.numbers.specs.Tests.{in-range, in-span};
 ghost use Rattle.method.specs.words.Layout.{table-length};
-ghost use Rattle.method.specs.words.Ranges.{most-keys, permits-negative};
-ghost use Rattle.method.specs.computed.Opening.{rates-good, fields-good};
+ghost use Rattle.method.specs.words.Ranges.{most-keys, whole, largest-price, permits-negative};
+ghost use Rattle.method.specs.computed.Opening.{field-good, fields-answer};
 ghost use Rattle.method.specs.computed.Table.{bad-key, header-good, laid-out, key-good};
 ghost use Rattle.table_ranges.specs.BadKey.{line-or-zero};
 use method::Contract;
+use method::Field;
+use method::FieldsAnswer;
 use method::Header;
 use method::Key;
+use numbers::Millionths;
 use numbers::Steps;
 
 // ---- the header
@@ -100,32 +105,10 @@ pub fn first_bad_key(keys: [Key; 16], n: usize) -> u32
 
 // ---- a contract
 
-// Rates in their range, and not falling.
-fn rates_good(c: Contract) -> bool
-    ensures { λ r. ⌜ r ≡ rates-good c ⌝ }
+// In its range, and at least 1 where negative prices are not permitted.
+fn price_good(flags: u32, price: Steps) -> bool
+    ensures { λ r. ⌜ r ≡ (in-span largest-price (price .0) && (permits-negative flags || leZ (pos 1) (price .0))) ⌝ }
 {
-    if !numbers::in_range(1, method::WHOLE, c.rate1.0) {
-        return false;
-    }
-    if !numbers::in_range(1, method::WHOLE, c.rate2.0) {
-        return false;
-    }
-    if c.rate2.0 < c.rate1.0 {
-        return false;
-    }
-    if !numbers::in_range(1, method::WHOLE, c.rate3.0) {
-        return false;
-    }
-    c.rate2.0 <= c.rate3.0
-}
-
-// Every field in its range (refusal 5).
-pub fn fields_good(c: Contract) -> bool
-    ensures { λ r. ⌜ r ≡ fields-good c ⌝ }
-{
-    let price = c.price;
-    let spot = c.spot;
-    let least = c.least;
     if !numbers::between(
         Steps(method::LOWEST_PRICE),
         Steps(method::LARGEST_PRICE),
@@ -133,37 +116,72 @@ pub fn fields_good(c: Contract) -> bool
     ) {
         return false;
     }
-    if !positive(c.flags, price) {
-        return false;
-    }
-    if !numbers::between(
-        Steps(method::LOWEST_PRICE),
-        Steps(method::LARGEST_PRICE),
-        spot,
-    ) {
-        return false;
-    }
-    if !numbers::between(Steps(1), Steps(method::LARGEST_PRICE), least) {
-        return false;
-    }
-    if !rates_good(c) {
-        return false;
-    }
-    if method::WHOLE < c.width.0 {
-        return false;
-    }
-    if method::MOST_DAYS < c.days {
-        return false;
-    }
-    wire::reserved_zero(c.flags)
-}
-
-// At least 1, where negative prices are not permitted.
-fn positive(flags: u32, price: Steps) -> bool
-    ensures { λ r. ⌜ r ≡ (permits-negative flags || leZ (pos 1) (price .0)) ⌝ }
-{
     if wire::bit_0(flags) {
         return true;
     }
     1 <= price.0
+}
+
+// In its range, and not below the rate before it.
+fn rate_good(before: Millionths, rate: Millionths) -> bool
+    ensures { λ r. ⌜ r ≡ (in-range 1 whole (rate .0) && leb (before .0) (rate .0)) ⌝ }
+{
+    if !numbers::in_range(1, method::WHOLE, rate.0) {
+        return false;
+    }
+    before.0 <= rate.0
+}
+
+fn field_good(f: Field, c: Contract) -> bool
+    ensures { λ r. ⌜ r ≡ field-good f c ⌝ }
+{
+    match f {
+        Field::Price => price_good(c.flags, c.price),
+        Field::Spot => numbers::between(
+            Steps(method::LOWEST_PRICE),
+            Steps(method::LARGEST_PRICE),
+            c.spot,
+        ),
+        Field::Least => numbers::between(Steps(1), Steps(method::LARGEST_PRICE), c.least),
+        Field::Rate1 => numbers::in_range(1, method::WHOLE, c.rate1.0),
+        Field::Rate2 => rate_good(c.rate1, c.rate2),
+        Field::Rate3 => rate_good(c.rate2, c.rate3),
+        Field::Width => c.width.0 <= method::WHOLE,
+        Field::Days => c.days <= method::MOST_DAYS,
+        Field::Flags => wire::reserved_zero(c.flags),
+    }
+}
+
+// The fields from first to last, up to one that is not in its range (refusal 5).
+pub fn fields(c: Contract) -> FieldsAnswer
+    ensures { λ r. ⌜ r ≡ fields-answer c ⌝ }
+{
+    if !field_good(Field::Price, c) {
+        return FieldsAnswer::Bad(Field::Price);
+    }
+    if !field_good(Field::Spot, c) {
+        return FieldsAnswer::Bad(Field::Spot);
+    }
+    if !field_good(Field::Least, c) {
+        return FieldsAnswer::Bad(Field::Least);
+    }
+    if !field_good(Field::Rate1, c) {
+        return FieldsAnswer::Bad(Field::Rate1);
+    }
+    if !field_good(Field::Rate2, c) {
+        return FieldsAnswer::Bad(Field::Rate2);
+    }
+    if !field_good(Field::Rate3, c) {
+        return FieldsAnswer::Bad(Field::Rate3);
+    }
+    if !field_good(Field::Width, c) {
+        return FieldsAnswer::Bad(Field::Width);
+    }
+    if !field_good(Field::Days, c) {
+        return FieldsAnswer::Bad(Field::Days);
+    }
+    if !field_good(Field::Flags, c) {
+        return FieldsAnswer::Bad(Field::Flags);
+    }
+    FieldsAnswer::Good
 }
