@@ -13,7 +13,7 @@ use Rattle.method.proofs.Opening.{market-in}
 use Rattle.method.proofs.Rooms.{span-within}
 use Rattle.bounds.specs.Asks.{Drawn}
 use Rattle.table_line.specs.Asks.{Spanned}
-use Rattle.table.specs.Names.{Millionths, Billionths, Key, Contract, Terms, Market}
+use Rattle.table.specs.Names.{Millionths, Billionths, Key, Contract, Field, Terms, Market}
 
 -- the exponent y, from the rate r
 pub exponent-is : (keys : List Key) (c : Contract) (r : Millionths) (y : Billionths) → r .0 ≡ rate-at keys (c .days) → y .0 ≡ exponent (r .0) (c .days) → y .0 ≡ exponent-of keys c
@@ -34,4 +34,4 @@ market-drawn shift y c h r =
 
 pub line-spanned : (shift : Millionths) (y : ℕ) (c : Contract) (t : Terms) (m : Market) → y ≤ most-exponent → ContractIn c → t ≡ terms-of shift y c
     → m ≡ market-of c → Spanned (c .width) (t .factors) m
-line-spanned shift y c t m h r et em = rw (et, em) (record { drawn = market-drawn shift y c h r; share = r .width })
+line-spanned shift y c t m h r et em = rw (et, em) (record { drawn = market-drawn shift y c h r; share = r Field.Width })

@@ -14,6 +14,7 @@ ghost use Rattle.table.specs.Asks.{Ready, Lined};
 use method::Book;
 use method::Contract;
 use method::Factors;
+use method::FieldsAnswer;
 use method::Header;
 use method::Hold;
 use method::Holds;
@@ -96,10 +97,10 @@ fn open_line(
     requires { ⌜ Ready shift keys n × (count ≤ most-contracts) ⌝ }
     ensures { λ r. ⌜ r ≡ open-line shift (take n keys) (take count lines) c ⌝ }
 {
-    let good_fields = table_ranges::fields_good(c);
+    let ranges = table_ranges::fields(c);
     let good_id = id_good(lines, count, c.id);
-    if !good_fields {
-        return LineAnswer::Refused(TableReason::Field);
+    if let FieldsAnswer::Bad(f) = ranges {
+        return LineAnswer::Refused(TableReason::Field(f));
     }
     if !good_id {
         return LineAnswer::Refused(TableReason::Id);

@@ -2,6 +2,7 @@
 pub use Rattle.numbers.specs.declared.Steps.{Steps}
 pub use Rattle.numbers.specs.declared.Millionths.{Millionths}
 pub use Rattle.method.specs.declared.Contract.{Contract}
+pub use Rattle.method.specs.declared.Field.{Field}
 pub use Rattle.method.specs.declared.Side.the-variants.{Up, Down}
 pub use Rattle.method.specs.declared.Factors.{Factors}
 pub use Rattle.method.specs.declared.Market.{Market}

@@ -1,12 +1,13 @@
 -- `table_line::normal_price` meets its contract. Assumes nothing.
 use borrow.Author.Needs.{needs}
 use Rattle.numbers.proofs.Machine.{tests}
+use Rattle.table_line.specs.Names.{Field}
 use Rattle.table_line.proofs.Opening.{normal-least, normal-size}
 use Rattle.table_line.proofs.normal_price.Statement.{statement}
 use Rattle.table_line.proofs.normal_price.Tie as tie
 
 magnitude-requires : tie.Need-magnitude-requires
-magnitude-requires c κs = search needs
+magnitude-requires c κs = c .before .before .pre Field.Spot
 
 returns : tie.Need-returns
 returns c = normal-least (c .before .before .before .before .before .before .before .before .args .c) (c .before .before .before .before .before .magnitude .result .0) (c .before .before .before .before .before .magnitude .ensures) (search (needs, tests))
