@@ -1,4 +1,4 @@
-// Where an event of a buffer ends, and what its byte string says: a tick, a quote, or nothing that is an event.
+// Where an event of a buffer ends, and what its byte string says: a tick, a quote, or why it is no event.
 
 ghost use mathlib.Core.Path.{_≡_};
 ghost use Prim.Native.Nat.{_+_, _≤_, _<_};
@@ -6,9 +6,10 @@ ghost use lib.IntN.{pos};
 ghost use lib.ListN.{length};
 ghost use Rattle.numbers.specs.Tests.{same};
 ghost use Rattle.method.specs.words.Wire.{word, signed};
-ghost use Rattle.method.specs.computed.Event.{price-good, price-of, read-tick, read-quote, read};
+ghost use Rattle.method.specs.computed.Event.{zero-if-absent, in-if-present, price-of, read-tick, read-quote, read};
 ghost use Rattle.events.specs.Cutting.{cut-at};
 use method::Event;
+use method::EventReason;
 use method::Price;
 use method::Quote;
 use numbers::Seconds;
@@ -39,14 +40,24 @@ fn zero(z: Steps) -> bool
     z.0 == 0
 }
 
-// A price that is present lies in its range, and one that is absent is 0.
-fn price_good(present: bool, z: Steps) -> bool
-    ensures { λ r. ⌜ r ≡ price-good present (z .0) ⌝ }
+// A price that is absent is 0.
+fn zero_if_absent(present: bool, z: Steps) -> bool
+    ensures { λ r. ⌜ r ≡ zero-if-absent present (z .0) ⌝ }
+{
+    if present {
+        return true;
+    }
+    zero(z)
+}
+
+// A price that is present lies in its range.
+fn in_if_present(present: bool, z: Steps) -> bool
+    ensures { λ r. ⌜ r ≡ in-if-present present (z .0) ⌝ }
 {
     if present {
         return numbers::between(Steps(method::LOWEST_QUOTE), Steps(method::LARGEST_QUOTE), z);
     }
-    zero(z)
+    true
 }
 
 fn price_of(present: bool, z: Steps) -> Price
@@ -63,30 +74,37 @@ fn read_tick(time: Seconds, id: u32, bid: Steps, ask: Steps) -> Event
     ensures { λ r. ⌜ r ≡ read-tick time id (bid .0) (ask .0) ⌝ }
 {
     if id != 0 {
-        return Event::Damaged;
+        return Event::Damaged(EventReason::Malformed);
     }
     if !zero(bid) {
-        return Event::Damaged;
+        return Event::Damaged(EventReason::Malformed);
     }
     if !zero(ask) {
-        return Event::Damaged;
+        return Event::Damaged(EventReason::Malformed);
     }
     Event::Tick(time)
 }
 
+// A quote has the flags of one, and the prices that they say are there (refusals 12, 15 and 16).
 fn read_quote(time: Seconds, id: u32, flags: u32, bid: Steps, ask: Steps) -> Event
     ensures { λ r. ⌜ r ≡ read-quote time id flags (bid .0) (ask .0) ⌝ }
 {
     let hasbid = wire::bit_0(flags);
     let hasask = wire::bit_1(flags);
     if !wire::reserved_zero(flags) {
-        return Event::Damaged;
+        return Event::Damaged(EventReason::Malformed);
     }
-    if !price_good(hasbid, bid) {
-        return Event::Damaged;
+    if !zero_if_absent(hasbid, bid) {
+        return Event::Damaged(EventReason::AbsentNotZero);
     }
-    if !price_good(hasask, ask) {
-        return Event::Damaged;
+    if !zero_if_absent(hasask, ask) {
+        return Event::Damaged(EventReason::AbsentNotZero);
+    }
+    if !in_if_present(hasbid, bid) {
+        return Event::Damaged(EventReason::PriceOutOfRange);
+    }
+    if !in_if_present(hasask, ask) {
+        return Event::Damaged(EventReason::PriceOutOfRange);
     }
     Event::Quoted(Quote {
         time: time,
@@ -96,12 +114,12 @@ fn read_quote(time: Seconds, id: u32, flags: u32, bid: Steps, ask: Steps) -> Eve
     })
 }
 
-// Any bytes of any length: a string that is no event is `Damaged`.
+// Any bytes of any length: a string that is no event is `Damaged`, with its refusal.
 pub fn read(bytes: &[u8]) -> Event
     ensures { λ r. ⌜ r ≡ read (now (bytes .entry)) ⌝ }
 {
     if bytes.len() != 20 {
-        return Event::Damaged;
+        return Event::Damaged(EventReason::Malformed);
     }
     let time = Seconds(wire::word(bytes, 0));
     let id = wire::word(bytes, 4);
