@@ -18,7 +18,7 @@ use Rattle.method.specs.computed.Types.{Quote, Event, Damaged, Tick, Quo
 use Rattle.method.specs.computed.Table.{opening}
 use Rattle.method.specs.computed.Judge.{judge-line}
 use Rattle.method.specs.computed.Shift.{moved-line, shift-line, shifted}
-use Rattle.method.specs.computed.Event.{not-crossed, screened, verdict, read, quoted-line, applied}
+use Rattle.method.specs.computed.Event.{not-crossed, quote-answer, screened, verdict, read, quoted-line, applied}
 use Rattle.method.specs.computed.Relation.{Answers, reached}
 use Rattle.method.specs.computed.Later.{Later, start, shift, event}
 use Rattle.method.specs.computed.Rooms.{LineIn}
@@ -38,7 +38,7 @@ unfolding not-crossed
 opened-open l r = rw (r .book)
 
 taken-open : (s : State) (q : Quote) → verdict s (Quoted q) ≡ EventAnswer.Accepted → not-crossed (q .bid) (q .ask) ≡ true
-unfolding verdict screened
+unfolding verdict screened quote-answer
 taken-open s q v =
     let its = met-by (listed (q .id) (session-ids s)) not-accepted (in-session-met s (q .time) _ v .1) in
     met-by (not-crossed (q .bid) (q .ask)) not-accepted (its .1) .0

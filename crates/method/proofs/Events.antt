@@ -18,7 +18,7 @@ use Rattle.method.specs.computed.Types.{Event, Damaged, Tick, Quoted}
 use Rattle.method.specs.computed.Opening.{ids}
 use Rattle.method.specs.computed.Judge.{judge-line}
 use Rattle.method.specs.computed.Shift.{moved-line, shift-line, shifted, onward, after}
-use Rattle.method.specs.computed.Event.{zero-if-absent, in-if-present, price-of, read-tick, read-quote, read, in-session, screened, verdict}
+use Rattle.method.specs.computed.Event.{zero-if-absent, in-if-present, price-of, read-tick, read-quote, read, in-session, quote-answer, screened, verdict}
 use Rattle.method.specs.computed.Relation.{time}
 use Rattle.method.specs.computed.Rooms.{PriceIn, EventIn}
 use Rattle.method.proofs.Demands.{met-by, by-demand, by-cond}
@@ -78,7 +78,7 @@ ids-shifted near left side now [] = refl
 ids-shifted near left side now (l ∷ ls) = ap (λ (js : List ℕ). l .terms .id ∷ js) (ids-shifted near left side now ls)
 
 verdict-shifted : (side : Side) (now : Seconds) (s : State) (e : Event) → verdict (shifted side now s) e ≡ verdict s e
-unfolding verdict screened in-session shifted
+unfolding verdict screened quote-answer in-session shifted
 verdict-shifted side now s (Damaged why) = refl
 verdict-shifted side now s (Tick t) = refl
 verdict-shifted side now s (Quoted q) = rw (ids-shifted (s .near) (s .left - 1) side now (s .lines))

@@ -1,18 +1,19 @@
 -- The search for an id: none of the ids before i is it. Assumes nothing.
 use mathlib.Core.Path.{_≡_, refl, sym, ap, _∙_}
-use mathlib.Core.Bool.{Bool, true, false, cond}
+use mathlib.Core.Bool.{Bool, true, false, cond, _||_}
 use mathlib.Core.List.{List, [], _∷_}
 use Prim.Native.Nat.{ℕ, zero, suc, _+_, _≤_, _<_}
 use native.Mathlib.Numerals.{add-one}
 use native.Mathlib.Omega.{arith}
-use borrow.Author.Tests.{eq-eqb, ne-eqb, lt-ltb, le-ltb}
+use borrow.Author.Tests.{eq-eqb, ne-eqb, ltb-true, ltb-false, lt-ltb, le-ltb}
 use lib.Dec.{eqb, ltb}
 use lib.ListN.{length, getD, drop}
 use lib.Seq.{drop-cons, drop-length}
+use Rattle.method.specs.told.Questions.{listed}
 use Rattle.method.specs.computed.Sound.{Distinct}
 use Rattle.method.proofs.Every.{every-at}
 use Rattle.verdict.specs.Names.{Event, Damaged, Tick, Quoted}
-use Rattle.verdict.specs.Screened.{slot-of, place-of}
+use Rattle.verdict.specs.Decided.{slot-of, place-of}
 
 pub record Passed (id : ℕ) (ids : List ℕ) (i : ℕ) : Type 0 where
   pub on : place-of id ids ≡ i + place-of id (drop i ids)
@@ -48,12 +49,29 @@ place-most id (j ∷ ids) = go (eqb j id) (place-most id ids)
     go true h = omega arith
     go false h = omega arith
 
-module _ (id : ℕ) (ids : List ℕ) {place : ℕ} (e : place ≡ place-of id ids) where
-  pub found-none : length ids ≤ place → ltb (place-of id ids) (length ids) ≡ false
-  found-none h = le-ltb (place-of id ids) (length ids) (omega arith)
+-- an id is listed where its place is one of the list's
+ltb-suc : (m n : ℕ) → ltb (suc m) (suc n) ≡ ltb m n
+ltb-suc m n = go (ltb m n) refl
+  where
+    go : (b : Bool) → ltb m n ≡ b → ltb (suc m) (suc n) ≡ b
+    go true e = let h = ltb-true m n e in lt-ltb (suc m) (suc n) (omega arith)
+    go false e = let h = ltb-false m n e in le-ltb (suc m) (suc n) (omega arith)
 
-  pub found-one : place < length ids → ltb (place-of id ids) (length ids) ≡ true
-  found-one h = lt-ltb (place-of id ids) (length ids) (omega arith)
+listed-placed : (id : ℕ) (ids : List ℕ) → listed id ids ≡ ltb (place-of id ids) (length ids)
+unfolding listed place-of
+listed-placed id [] = refl
+listed-placed id (j ∷ ids) = go (eqb j id) (listed-placed id ids)
+  where
+    go : (b : Bool) → listed id ids ≡ ltb (place-of id ids) (length ids) → (b || listed id ids) ≡ ltb (cond b 0 (suc (place-of id ids))) (suc (length ids))
+    go true h = sym (lt-ltb 0 (suc (length ids)) (omega arith))
+    go false h = h ∙ sym (ltb-suc (place-of id ids) (length ids))
+
+module _ (id : ℕ) (ids : List ℕ) {place : ℕ} (e : place ≡ place-of id ids) where
+  pub found-none : length ids ≤ place → listed id ids ≡ false
+  found-none h = listed-placed id ids ∙ le-ltb (place-of id ids) (length ids) (omega arith)
+
+  pub found-one : place < length ids → listed id ids ≡ true
+  found-one h = listed-placed id ids ∙ lt-ltb (place-of id ids) (length ids) (omega arith)
 
 -- ---- a guess
 -- where no id stands twice, the place that has it is the first
@@ -65,6 +83,6 @@ guessed id (j ∷ ids) (suc p) d h e =
     rw (ne-eqb j id (λ s. every-at (λ k. k ≡ j → ⊥) ids 0 p (d .0) (omega arith) (e ∙ sym s))) (ap suc (guessed id ids p (d .1) (omega arith) e))
 
 pub slot-below : (e : Event) → slot-of e < 256
-slot-below Damaged = omega arith
+slot-below (Damaged why) = omega arith
 slot-below (Tick t) = omega arith
 slot-below (Quoted q) = omega arith

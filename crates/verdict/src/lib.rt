@@ -1,10 +1,11 @@
 // Whether an event is taken, and what it then changes.
 
 ghost use mathlib.Core.Path.{_≡_};
-ghost use Rattle.method.specs.computed.Event.{not-crossed};
+ghost use Rattle.method.specs.computed.Event.{in-session, not-crossed, quote-answer};
 ghost use Rattle.method.specs.computed.Sound.{Distinct};
-ghost use Rattle.verdict.specs.Screened.{slot-of, place-of, if-in-session, quote-screened, screened};
+ghost use Rattle.verdict.specs.Decided.{slot-of, place-of, verdict-of, decided};
 use method::Event;
+use method::EventAnswer;
 use method::EventReason;
 use method::Price;
 use method::Quote;
@@ -50,7 +51,7 @@ pub fn slot(e: Event) -> usize
     ensures { λ r. ⌜ r ≡ slot-of e ⌝ }
 {
     match e {
-        Event::Damaged => 0,
+        Event::Damaged(_) => 0,
         Event::Tick(_) => 0,
         Event::Quoted(q) => (q.id % 256) as usize,
     }
@@ -83,62 +84,70 @@ fn place_of(ids: &[u32], guess: u8, id: u32) -> usize
 }
 
 // Refusals 10 and 11; what comes after them is handed over.
-fn if_in_session(end: Seconds, clock: Seconds, t: Seconds, onward: Verdict) -> Verdict
-    ensures { λ r. ⌜ r ≡ if-in-session end clock t onward ⌝ }
+fn in_session(end: Seconds, clock: Seconds, t: Seconds, onward: EventAnswer) -> EventAnswer
+    ensures { λ r. ⌜ r ≡ in-session end clock t onward ⌝ }
 {
     if end.0 < t.0 {
-        return Verdict::Refused(EventReason::AfterEnd);
+        return EventAnswer::Refused(EventReason::AfterEnd);
     }
     if t.0 < clock.0 {
-        return Verdict::Refused(EventReason::BeforeClock);
+        return EventAnswer::Refused(EventReason::BeforeClock);
     }
     onward
 }
 
-// Refusals 13 and 14.
-fn quote_screened(ids: &[u32], guess: u8, q: Quote) -> Verdict
-    requires { ⌜ Distinct (now ids) ⌝ }
-    ensures { λ r. ⌜ r ≡ quote-screened (now (ids .entry)) q ⌝ }
+// Refusals 13 and 14, from the place of the quote's id.
+fn quote_answer(ids: &[u32], place: usize, q: Quote) -> EventAnswer
+    requires { ⌜ place ≡ place-of (q .id) (now ids) ⌝ }
+    ensures { λ r. ⌜ r ≡ quote-answer (now (ids .entry)) q ⌝ }
 {
-    let place = place_of(ids, guess, q.id);
+    if place == ids.len() {
+        return EventAnswer::Refused(EventReason::UnknownId);
+    }
     let bid = q.bid;
     let ask = q.ask;
-    let uncrossed = not_crossed(bid, ask);
-    if place == ids.len() {
-        return Verdict::Refused(EventReason::UnknownId);
+    if !not_crossed(bid, ask) {
+        return EventAnswer::Refused(EventReason::Crossed);
     }
-    if !uncrossed {
-        return Verdict::Refused(EventReason::Crossed);
+    EventAnswer::Accepted
+}
+
+fn verdict_of(answer: EventAnswer, taken: Taken) -> Verdict
+    ensures { λ r. ⌜ r ≡ verdict-of answer taken ⌝ }
+{
+    match answer {
+        EventAnswer::Refused(why) => Verdict::Refused(why),
+        EventAnswer::Accepted => Verdict::Taken(taken),
     }
-    let time = q.time;
-    Verdict::Taken(Taken {
-        time: time,
-        change: Change::Quote(PlacedQuote {
-            place: place,
-            quote: q,
-        }),
-    })
 }
 
 // What becomes of an event in a session of these ids, this end and this clock; with a guess at the place of a quote's line.
 pub fn screen(ids: &[u32], guess: u8, end: Seconds, clock: Seconds, e: Event) -> Verdict
     requires { ⌜ Distinct (now ids) ⌝ }
-    ensures { λ r. ⌜ r ≡ screened (now (ids .entry)) end clock e ⌝ }
+    ensures { λ r. ⌜ r ≡ decided (now (ids .entry)) end clock e ⌝ }
 {
     match e {
-        Event::Damaged => Verdict::Refused(EventReason::Malformed),
-        Event::Tick(t) => if_in_session(
-            end,
-            clock,
-            t,
-            Verdict::Taken(Taken {
+        Event::Damaged(why) => Verdict::Refused(why),
+        Event::Tick(t) => verdict_of(
+            in_session(end, clock, t, EventAnswer::Accepted),
+            Taken {
                 time: t,
                 change: Change::Nothing,
-            }),
+            },
         ),
         Event::Quoted(q) => {
+            let place = place_of(ids, guess, q.id);
             let time = q.time;
-            if_in_session(end, clock, time, quote_screened(ids, guess, q))
+            verdict_of(
+                in_session(end, clock, time, quote_answer(ids, place, q)),
+                Taken {
+                    time: time,
+                    change: Change::Quote(PlacedQuote {
+                        place: place,
+                        quote: q,
+                    }),
+                },
+            )
         }
     }
 }

@@ -64,13 +64,15 @@ not-crossed (Given bid) (Given ask) = leZ (bid .0) (ask .0)
 not-crossed (Given bid) Absent = true
 not-crossed Absent ask = true
 
+unfoldable pub quote-answer : List ℕ → Quote → EventAnswer
+quote-answer ids q =
+    demand (listed (q .id) ids) (EventAnswer.Refused EventReason.UnknownId)
+    (demand (not-crossed (q .bid) (q .ask)) (EventAnswer.Refused EventReason.Crossed) EventAnswer.Accepted)
+
 unfoldable pub screened : List ℕ → Seconds → Seconds → Event → EventAnswer
 screened ids end clock (Damaged why) = EventAnswer.Refused why
 screened ids end clock (Tick time) = in-session end clock time EventAnswer.Accepted
-screened ids end clock (Quoted q) =
-    in-session end clock (q .time)
-    (demand (listed (q .id) ids) (EventAnswer.Refused EventReason.UnknownId)
-    (demand (not-crossed (q .bid) (q .ask)) (EventAnswer.Refused EventReason.Crossed) EventAnswer.Accepted))
+screened ids end clock (Quoted q) = in-session end clock (q .time) (quote-answer ids q)
 
 unfoldable pub verdict : State → Event → EventAnswer
 verdict s e = screened (session-ids s) (s .end) (s .clock) e
