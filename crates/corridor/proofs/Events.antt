@@ -129,7 +129,7 @@ quoted-length near left q (l ∷ ls) =
 
 applied-length : (e : Event) (s : State) → length (applied e s .lines) ≡ length (s .lines)
 unfolding applied
-applied-length Damaged s = refl
+applied-length (Damaged why) s = refl
 applied-length (Tick t) s = refl
 applied-length (Quoted q) s = quoted-length (s .near) (s .left) q (s .lines)
 

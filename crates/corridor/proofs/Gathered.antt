@@ -54,7 +54,7 @@ ids-quoted near left q (l ∷ ls) =
 
 pub ids-applied : (e : Event) (s : State) → session-ids (applied e s) ≡ session-ids s
 unfolding applied
-ids-applied Damaged s = refl
+ids-applied (Damaged why) s = refl
 ids-applied (Tick t) s = refl
 ids-applied (Quoted q) s = ids-quoted (s .near) (s .left) q (s .lines)
 

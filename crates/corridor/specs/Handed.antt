@@ -6,7 +6,7 @@ use Prim.Native.Nat.{ℕ}
 use lib.IntN.{pos}
 use Rattle.method.specs.words.Tables.{Opening}
 use Rattle.method.specs.words.Sessions.{refused}
-use Rattle.method.specs.told.Refusals.{table-number, event-number, table-said, event-said}
+use Rattle.method.specs.told.Refusals.{table-number, field-number, event-number, table-said, event-said}
 use Rattle.method.specs.computed.Table.{opening}
 use Rattle.method.specs.computed.Event.{read}
 use Rattle.method.specs.computed.Search.{answer}
@@ -33,11 +33,11 @@ RefusedOpensNone =
 abbrev pub EventValid : Type 0
 EventValid = (s : Session) (b : List ℕ) → Valid s → Valid (reply-to s b .session)
 
--- A table that the method refuses is answered with the refusal's number and the line at fault. [open-says]
+-- A table that the method refuses is answered with the refusal's number, the line at fault, and the place of the field that it names. [open-says]
 abbrev pub OpenSays : Type 0
 OpenSays =
     (b : List ℕ) (why : TableReason) (line : ℕ) → opening b ≡ Opening.refused why line
-    → table-said (opened-by b .answer) ≡ record { number = table-number why; values = pos line ∷ [] }
+    → table-said (opened-by b .answer) ≡ record { number = table-number why; values = pos line ∷ pos (field-number why) ∷ [] }
 
 -- An event that the method refuses is answered with the refusal's number. [event-says]
 abbrev pub EventSays : Type 0
