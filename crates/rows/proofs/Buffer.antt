@@ -54,7 +54,7 @@ module _ {A : Type 0} where
 pub row-long : (r : Row) → length (row-numbers r) ≡ 6
 unfolding row-numbers
 row-long (Row.Shift c) = refl
-row-long (Row.RefusedEvent why) = refl
+row-long (Row.RefusedEvent why place) = refl
 row-long (Row.RefusedTable why line) = refl
 row-long (Row.Closed c) = refl
 

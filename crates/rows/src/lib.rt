@@ -9,6 +9,7 @@ ghost use Rattle.method.specs.words.Ranges.{most-shifts};
 ghost use Rattle.method.specs.told.Refusals.{table-number, event-number};
 ghost use Rattle.method.specs.told.Rows.{row-numbers, numbers-of, side-number};
 ghost use Rattle.rows.specs.Buffer.{written, needed};
+ghost use Rattle.rows.specs.Fits.{largest-number, Fits};
 use method::EventReason;
 use method::Row;
 use method::ShiftLine;
@@ -27,6 +28,13 @@ fn wide(n: u32) -> i64
     (n as u64) as i64
 }
 
+fn wide_place(place: usize) -> i64
+    requires { ⌜ place ≤ largest-number ⌝ }
+    ensures { λ r. ⌜ r ≡ pos place ⌝ }
+{
+    place as i64
+}
+
 fn side_number(side: Side) -> i64
     ensures { λ r. ⌜ r ≡ pos (side-number side) ⌝ }
 {
@@ -36,7 +44,7 @@ fn side_number(side: Side) -> i64
     }
 }
 
-fn event_number(why: EventReason) -> i64
+pub fn event_number(why: EventReason) -> i64
     ensures { λ r. ⌜ r ≡ pos (event-number why) ⌝ }
 {
     match why {
@@ -48,7 +56,7 @@ fn event_number(why: EventReason) -> i64
     }
 }
 
-fn table_number(why: TableReason) -> i64
+pub fn table_number(why: TableReason) -> i64
     ensures { λ r. ⌜ r ≡ pos (table-number why) ⌝ }
 {
     match why {
@@ -66,6 +74,7 @@ fn table_number(why: TableReason) -> i64
 
 // A row in six numbers: its kind, and its values in the printed order, with 0 in the places that it leaves free.
 pub fn row_numbers(row: Row) -> [i64; 6]
+    requires { ⌜ Fits row ⌝ }
     ensures { λ r. ⌜ r ≡ row-numbers row ⌝ }
 {
     match row {
@@ -73,7 +82,7 @@ pub fn row_numbers(row: Row) -> [i64; 6]
             let side = c.side;
             [1, wide(c.second.0), side_number(side), wide(c.id), 0, 0]
         }
-        Row::RefusedEvent(why) => [2, event_number(why), 0, 0, 0, 0],
+        Row::RefusedEvent(why, place) => [2, event_number(why), wide_place(place), 0, 0, 0],
         Row::RefusedTable(why, line) => [3, table_number(why), wide(line), 0, 0, 0],
         Row::Closed(c) => [
             4,
@@ -99,7 +108,7 @@ fn copied(out: &mut [i64], at: usize, numbers: [i64; 6])
 
 // A row written into the buffer from `at` on.
 pub fn write(out: &mut [i64], at: usize, row: Row)
-    requires { ⌜ at + 6 ≤ length (now out) ⌝ }
+    requires { ⌜ (at + 6 ≤ length (now out)) × Fits row ⌝ }
     ensures { λ _. ⌜ now (out .exit) ≡ written (now (out .entry)) at (row-numbers row) ⌝ }
 {
     copied(out, at, row_numbers(row));

@@ -1,6 +1,8 @@
 -- `rows::row_numbers` meets its contract. Assumes nothing.
 use borrow.Author.Needs.{needs}
+use mathlib.Core.Path.{subst}
 use Rattle.method.specs.told.Rows.{row-numbers}
+use Rattle.rows.specs.Fits.{Fits}
 use Rattle.rows.proofs.row_numbers.Statement.{statement}
 use Rattle.rows.proofs.row_numbers.Tie as tie
 
@@ -21,6 +23,9 @@ enum-known-row-2 c = search needs
 
 event-number-requires : tie.Need-event-number-requires
 event-number-requires c κs = search needs
+
+wide-place-requires : tie.Need-wide-place-requires
+wide-place-requires c κs = subst Fits (c .before .before .row2 .given .1) (c .before .before .before .before .pre)
 
 enum-known-row-3 : tie.Need-enum-known-row-3
 enum-known-row-3 c = search needs
@@ -43,7 +48,7 @@ returns c = rw (c .before .before .before .before .row .given .1) (search needs)
 
 returns-2 : tie.Need-returns-2
 unfolding row-numbers
-returns-2 c = rw (c .before .before .row2 .given .1) (search needs)
+returns-2 c = rw (c .before .before .before .row2 .given .1) (search needs)
 
 returns-3 : tie.Need-returns-3
 unfolding row-numbers
@@ -63,6 +68,7 @@ row-numbers-spec =
     wide-requires-2
     enum-known-row-2
     event-number-requires
+    wide-place-requires
     enum-known-row-3
     table-number-requires
     wide-requires-3
