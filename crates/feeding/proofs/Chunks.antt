@@ -1,8 +1,8 @@
 -- Feeding: what is told fits into the room, the session handed back is valid, a buffer may be fed in two parts, and feeding it is handing it to
 -- `event` piece by piece. Assumes nothing.
 use mathlib.Core.Path.{_≡_, refl, sym, ap, subst, _∙_}
-use mathlib.Core.List.{List, [], _∷_, _++_, append-assoc}
-use Prim.Native.Nat.{ℕ, zero, suc, _+_, _-_, _*_, _/_, _≤_}
+use mathlib.Core.List.{List, [], _∷_, _++_, map, append-assoc, map-append}
+use Prim.Native.Nat.{ℕ, zero, suc, _+_, _*_, _/_, _≤_}
 use native.Mathlib.Omega.{arith}
 use native.Mathlib.Nat.{zero-add}
 use borrow.Author.Tests.{le-ltb}
@@ -12,34 +12,36 @@ use lib.ListN.{length, take, drop, length-append, length-drop, length-map}
 use lib.Seq.{take-append-le, drop-append-le}
 use Rattle.method.specs.words.Types.{State}
 use Rattle.method.specs.words.Sessions.{Answer, accepted, refused, joined}
-use Rattle.method.specs.told.Rows.{rows-of, rows-of-all, numbers-of}
+use Rattle.method.specs.told.Rows.{rows-of, rows-from, rows-of-all, numbers-of}
 use Rattle.method.specs.told.Program.{pieces, events-of}
 use Rattle.method.specs.computed.Event.{read, next}
 use Rattle.method.specs.computed.Search.{answer, run, finally}
+use Rattle.method.specs.declared.Row.{Row}
 use Rattle.method.specs.declared.Row.the-variants as Row
 use Rattle.method.proofs.Answers.{run-right, answers-spend, run-append, finally-append}
 use Rattle.method.proofs.Demands.{by-cond}
 use Rattle.rows.specs.Buffer.{written}
-use Rattle.rows.proofs.Buffer.{written-long, written-on, written-rest, numbers-long, numbers-append}
+use Rattle.rows.proofs.Buffer.{numbers-long, numbers-append}
 use Rattle.corridor.specs.declared.Session.{Session}
 use Rattle.rows.specs.declared.RowsAnswer.{RowsAnswer}
 use Rattle.feeding.specs.declared.Fed.{Fed}
+use Rattle.feeding.specs.Names.{ShiftLine}
 use Rattle.corridor.specs.View.{view, put, Valid}
-use Rattle.feeding.specs.Feeding.{feed-needs, answers-told, told, left-by, fed, fed-into, ToldFits, FeedValid, FeedingIsTheSame}
-use Rattle.feeding.specs.Chunks.{FeedOn}
+use Rattle.feeding.specs.Feeding.{feed-needs, rows-for, told, left-by, fed, fed-into, ToldFits, FeedValid, FeedingIsTheSame}
+use Rattle.feeding.specs.Chunks.{raised, behind, FeedOn}
 use Rattle.corridor.proofs.Views.{view-put, put-put}
 use Rattle.corridor.proofs.Events.{finally-kept}
 use Rattle.corridor.proofs.Engine.{engine-runs, engine-is-right}
 use Rattle.events.proofs.Cutting.{first-event}
 
--- ---- how many rows there are
-rows-few : (rs : List Answer) → length (rows-of-all rs) ≤ length rs + length (joined rs)
-unfolding rows-of-all rows-of joined
-rows-few [] = omega arith
-rows-few (accepted cs ∷ rs) =
-    omega (arith, rows-few rs, length-append (rows-of (accepted cs)) (rows-of-all rs), length-append cs (joined rs), length-map cs Row.Shift)
-rows-few (refused why ∷ rs) =
-    omega (arith, rows-few rs, length-append (rows-of (refused why)) (rows-of-all rs))
+-- ---- how many rows there are, from whatever place their events are counted
+rows-few : (n : ℕ) (rs : List Answer) → length (rows-from n rs) ≤ length rs + length (joined rs)
+unfolding rows-from rows-of joined
+rows-few n [] = omega arith
+rows-few n (accepted cs ∷ rs) =
+    omega (arith, rows-few (suc n) rs, length-append (rows-of n (accepted cs)) (rows-from (suc n) rs), length-append cs (joined rs), length-map cs Row.Shift)
+rows-few n (refused why ∷ rs) =
+    omega (arith, rows-few (suc n) rs, length-append (rows-of n (refused why)) (rows-from (suc n) rs))
 
 run-length : (s : State) (bs : List (List ℕ)) → length (run s bs) ≡ length bs
 unfolding run
@@ -57,7 +59,7 @@ told-fits s b v =
     omega (
       arith,
       numbers-long (rows-of-all rs),
-      rows-few rs,
+      rows-few 1 rs,
       run-length (view s) (events-of b),
       pieces-length ((length b + 19) / 20) b,
       answers-spend (view s) (events-of b) rs (v .sound) (run-right (view s) (events-of b) (v .sound)),
@@ -77,15 +79,32 @@ events-on (suc k) xs ys e =
     ∙ rw (take-append-le 20 xs ys (omega arith), drop-append-le 20 xs ys (omega arith)) (ap (λ (bs : List (List ℕ)). take 20 xs ∷ bs) (events-on k (drop 20 xs) ys (omega (arith, length-drop 20 xs))))
     ∙ ap (λ (bs : List (List ℕ)). bs ++ events-of ys) (sym (first-event xs (omega arith)))
 
-rows-append : (rs qs : List Answer) → rows-of-all (rs ++ qs) ≡ rows-of-all rs ++ rows-of-all qs
-unfolding rows-of-all
-rows-append [] qs = refl
-rows-append (a ∷ rs) qs = rw (rows-append rs qs) (sym (append-assoc (rows-of a) (rows-of-all rs) (rows-of-all qs)))
+-- rows whose events are counted from further on are the same, raised
+shifts-still : (k : ℕ) (cs : List ShiftLine) → map (raised k) (map Row.Shift cs) ≡ map Row.Shift cs
+shifts-still k [] = refl
+shifts-still k (c ∷ cs) = ap (λ (rows : List Row). Row.Shift c ∷ rows) (shifts-still k cs)
 
-answers-on : (s : State) (bs cs : List (List ℕ)) → answers-told s (bs ++ cs) ≡ answers-told s bs ++ answers-told (finally s bs) cs
-answers-on s bs cs =
-    ap (λ (rs : List Answer). numbers-of (rows-of-all rs)) (run-append s bs cs) ∙ ap numbers-of (rows-append (run s bs) (run (finally s bs) cs))
-    ∙ numbers-append (rows-of-all (run s bs)) (rows-of-all (run (finally s bs) cs))
+rows-raised : (k n : ℕ) (rs : List Answer) → rows-from (k + n) rs ≡ map (raised k) (rows-from n rs)
+unfolding rows-from rows-of
+rows-raised k n [] = refl
+rows-raised k n (accepted cs ∷ rs) =
+    let on : suc (k + n) ≡ k + suc n = omega arith in
+    rw (map-append (raised k) (map Row.Shift cs) (rows-from (suc n) rs), shifts-still k cs, on, rows-raised k (suc n) rs)
+rows-raised k n (refused why ∷ rs) =
+    let on : suc (k + n) ≡ k + suc n = omega arith in
+    ap (λ (rows : List Row). Row.RefusedEvent why (k + n) ∷ rows) (ap (λ (m : ℕ). rows-from m rs) on ∙ rows-raised k (suc n) rs)
+
+rows-append : (n : ℕ) (rs qs : List Answer) → rows-from n (rs ++ qs) ≡ rows-from n rs ++ rows-from (length rs + n) qs
+unfolding rows-from
+rows-append n [] qs = rw (zero-add n)
+rows-append n (a ∷ rs) qs =
+    let on : length rs + suc n ≡ suc (length rs) + n = omega arith in
+    rw (rows-append (suc n) rs qs, on) (sym (append-assoc (rows-of n a) (rows-from (suc n) rs) (rows-from (suc (length rs) + n) qs)))
+
+rows-on : (s : State) (bs cs : List (List ℕ)) → rows-of-all (run s (bs ++ cs)) ≡ rows-of-all (run s bs) ++ map (raised (length bs)) (rows-of-all (run (finally s bs) cs))
+rows-on s bs cs =
+    ap rows-of-all (run-append s bs cs) ∙ rows-append 1 (run s bs) (run (finally s bs) cs)
+    ∙ rw (run-length s bs, rows-raised (length bs) 1 (run (finally s bs) cs))
 
 module _ (s : Session) (xs ys : List ℕ) (k : ℕ) (whole : length xs ≡ 20 * k) where
   abbrev then : State
@@ -94,10 +113,10 @@ module _ (s : Session) (xs ys : List ℕ) (k : ℕ) (whole : length xs ≡ 20 * 
   seen : view (left-by s xs) ≡ then
   seen = view-put s then
 
-  pub told-on : told s (xs ++ ys) ≡ told s xs ++ told (left-by s xs) ys
-  told-on =
-      ap (answers-told (view s)) (events-on k xs ys whole) ∙ answers-on (view s) (events-of xs) (events-of ys)
-      ∙ ap (λ (x : State). told s xs ++ answers-told x (events-of ys)) (sym seen)
+  pub rows-for-on : rows-for s (xs ++ ys) ≡ rows-for s xs ++ behind xs (rows-for (left-by s xs) ys)
+  rows-for-on =
+      ap (λ (bs : List (List ℕ)). rows-of-all (run (view s) bs)) (events-on k xs ys whole) ∙ rows-on (view s) (events-of xs) (events-of ys)
+      ∙ ap (λ (x : State). rows-for s xs ++ behind xs (rows-of-all (run x (events-of ys)))) (sym seen)
 
   pub left-on : left-by s (xs ++ ys) ≡ left-by (left-by s xs) ys
   left-on =
@@ -120,23 +139,11 @@ valid-feed s size b v =
     by-cond (λ (r : Fed). Valid (r .session)) (ltb size (feed-needs (length b))) (λ e. v) (λ e. valid-left s b v)
 
 pub feed-on : FeedOn
-feed-on s xs ys out k whole v =
+feed-on s xs ys k whole =
     record {
       session = λ m n p h g i. rw (fed-is s m xs h, fed-is (left-by s xs) n ys g, fed-is s p (xs ++ ys) i) (sym (left-on s xs ys k whole));
-      numbers = numbers;
+      numbers = ap numbers-of (rows-for-on s xs ys k whole) ∙ numbers-append (rows-for s xs) (behind xs (rows-for (left-by s xs) ys));
     }
-  where
-    numbers : feed-needs (length xs) ≤ length out → feed-needs (length ys) ≤ length out - length (told s xs) → feed-needs (length (xs ++ ys)) ≤ length out
-        → take (length (told s xs)) (fed-into s out xs) ++ fed-into (fed s (length out) xs .session) (drop (length (told s xs)) (fed-into s out xs)) ys
-        ≡ fed-into s out (xs ++ ys)
-    numbers h g i =
-        let at : ℕ = length (told s xs) in
-        let first : List ℤ = written out 0 (told s xs) in
-        let fits : 0 + length (told s xs) ≤ length out = omega (arith, told-fits s xs v) in
-        let rest : feed-needs (length ys) ≤ length (drop at first) = omega (arith, length-drop at first, written-long out 0 (told s xs) fits) in
-        rw (fed-is s (length out) xs h, fed-into-is s out xs h, fed-into-is (left-by s xs) (drop at first) ys rest, fed-into-is s out (xs ++ ys) i)
-        (written-rest first at (told (left-by s xs) ys) ∙ ap (λ (j : ℕ). written first j (told (left-by s xs) ys)) (sym (zero-add at))
-        ∙ written-on out 0 (told s xs) fits (told (left-by s xs) ys) ∙ ap (written out 0) (sym (told-on s xs ys k whole)))
 
 -- ---- piece by piece
 pub feeding-is-the-same : FeedingIsTheSame

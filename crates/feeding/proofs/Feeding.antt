@@ -2,7 +2,8 @@
 use mathlib.Core.Path.{_≡_, refl, sym, ap, _∙_}
 use mathlib.Core.Bool.{true}
 use mathlib.Core.List.{List, [], _∷_, _++_, map, append-assoc, append-nil}
-use Prim.Native.Nat.{ℕ, _+_, _*_, _-_, _/_, _≤_, _<_}
+use Prim.Native.Nat.{ℕ, suc, _+_, _*_, _-_, _/_, _≤_, _<_}
+use native.Mathlib.Numerals.{add-one}
 use native.Mathlib.Omega.{arith}
 use borrow.Author.Tests.{lt-ltb, le-ltb}
 use lib.Dec.{ltb}
@@ -12,7 +13,7 @@ use lib.Seq.{drop-length}
 use Rattle.numbers.proofs.Arrays.{padded-take}
 use Rattle.method.specs.words.Types.{State}
 use Rattle.method.specs.words.Sessions.{Answer, accepted, refused}
-use Rattle.method.specs.told.Rows.{rows-of, rows-of-all, numbers-of}
+use Rattle.method.specs.told.Rows.{rows-of, rows-from, numbers-of}
 use Rattle.method.specs.told.Program.{pieces, events-of}
 use Rattle.method.specs.computed.Head.{most-left}
 use Rattle.method.specs.computed.Event.{read, next}
@@ -40,33 +41,41 @@ abbrev pub rows-count : EventAnswer → ℕ → ℕ
 rows-count EventAnswer.Accepted made = made
 rows-count (EventAnswer.Refused why) made = 1
 
-abbrev pub reply-rows : EventAnswer → List ShiftLine → ℕ → List Row
-reply-rows EventAnswer.Accepted shifts made = map Row.Shift (take made shifts)
-reply-rows (EventAnswer.Refused why) shifts made = Row.RefusedEvent why ∷ []
+-- of the event at a place
+abbrev pub reply-rows : ℕ → EventAnswer → List ShiftLine → ℕ → List Row
+reply-rows place EventAnswer.Accepted shifts made = map Row.Shift (take made shifts)
+reply-rows place (EventAnswer.Refused why) shifts made = Row.RefusedEvent why place ∷ []
 
-told-first : (s : State) (b : List ℕ) (bs : List (List ℕ))
-    → answers-told s (b ∷ bs) ≡ numbers-of (rows-of (answer s (read b))) ++ answers-told (next s (read b) (answer s (read b))) bs
-unfolding run rows-of-all
-told-first s b bs = numbers-append (rows-of (answer s (read b))) (rows-of-all (run (next s (read b) (answer s (read b))) bs))
+-- ---- the answers to the events from a place on, in numbers
+abbrev answers-from : ℕ → State → List (List ℕ) → List ℤ
+answers-from place s events = numbers-of (rows-from place (run s events))
 
--- ---- the loop: `done` has been told, and the rest is what the session at hand will tell
+told-first : (place : ℕ) (s : State) (b : List ℕ) (bs : List (List ℕ))
+    → answers-from place s (b ∷ bs) ≡ numbers-of (rows-of place (answer s (read b))) ++ answers-from (place + 1) (next s (read b) (answer s (read b))) bs
+unfolding run rows-from
+told-first place s b bs =
+    rw (add-one place) (numbers-append (rows-of place (answer s (read b))) (rows-from (suc place) (run (next s (read b) (answer s (read b))) bs)))
+
+-- ---- the loop: `done` has been told, of so many events, and the rest is what the session at hand will tell
 module _ (o : Session) (b : List ℕ) (out : List ℤ) where
-  pub record Ahead (s : Session) (at from : ℕ) (now : List ℤ) : Type 0 where
+  pub record Ahead (s : Session) (at from event : ℕ) (now : List ℤ) : Type 0 where
     pub done : List ℤ
     pub valid : Valid s
     pub inside : from ≤ length b
-    pub answers : answers-told (view o) (events-of b) ≡ done ++ answers-told (view s) (events-of (drop from b))
+    pub counted : event + (length b - from + 19) / 20 ≡ (length b + 19) / 20
+    pub answers : answers-told (view o) (events-of b) ≡ done ++ answers-from (event + 1) (view s) (events-of (drop from b))
     pub session : put o (finally (view o) (events-of b)) ≡ put s (finally (view s) (events-of (drop from b)))
     pub here : now ≡ written out 0 done
     pub long : length done ≡ at
     pub left : at + 6 * ((length b - from + 19) / 20 + most-left (view s)) ≤ length out
 
-  pub ahead-start : Valid o → feed-needs (length b) ≤ length out → Ahead o 0 0 out
+  pub ahead-start : Valid o → feed-needs (length b) ≤ length out → Ahead o 0 0 0 out
   ahead-start v h =
       record {
         done = [];
         valid = v;
         inside = omega arith;
+        counted = omega arith;
         answers = refl;
         session = refl;
         here = nothing-written out 0;
@@ -74,10 +83,10 @@ module _ (o : Session) (b : List ℕ) (out : List ℤ) where
         left = omega (arith, v .sane .left);
       }
 
-  pub ahead-long : {s : Session} {at from : ℕ} {now : List ℤ} → Ahead s at from now → length now ≡ length out
+  pub ahead-long : {s : Session} {at from event : ℕ} {now : List ℤ} → Ahead s at from event now → length now ≡ length out
   ahead-long h = ap length (h .here) ∙ written-long out 0 (h .done) (omega (arith, h .long, h .left))
 
-  module _ {s : Session} {at from to : ℕ} {now : List ℤ} (h : Ahead s at from now) (g : from < length b) (c : Cut from (length b) to) where
+  module _ {s : Session} {at from event to : ℕ} {now : List ℤ} (h : Ahead s at from event now) (g : from < length b) (c : Cut from (length b) to) where
     abbrev piece : List ℕ
     piece = take (to - from) (drop from b)
 
@@ -87,16 +96,16 @@ module _ (o : Session) (b : List ℕ) (out : List ℤ) where
     there : events-of (drop from b) ≡ piece ∷ events-of (drop to b)
     there = first-event (drop from b) (omega (arith, length-drop from b)) ∙ rw (cut-piece b c, cut-rest b c)
 
-    rows-there : answers-told (view s) (events-of (drop from b)) ≡ numbers-of (rows-of a) ++ answers-told (next (view s) (read piece) a) (events-of (drop to b))
-    rows-there = ap (answers-told (view s)) there ∙ told-first (view s) piece (events-of (drop to b))
+    rows-there : answers-from (event + 1) (view s) (events-of (drop from b)) ≡ numbers-of (rows-of (event + 1) a) ++ answers-from (event + 1 + 1) (next (view s) (read piece) a) (events-of (drop to b))
+    rows-there = ap (answers-from (event + 1) (view s)) there ∙ told-first (event + 1) (view s) piece (events-of (drop to b))
 
     state-there : finally (view s) (events-of (drop from b)) ≡ finally (next (view s) (read piece) a) (events-of (drop to b))
     unfolding finally
     state-there = ap (finally (view s)) there
 
     step : (x : Session) (rows : List Row) (k : ℕ) {then : List ℤ} → Valid x → view x ≡ next (view s) (read piece) a
-        → ((y : State) → length (y .lines) ≡ length (view x .lines) → put s y ≡ put x y) → rows ≡ rows-of a → k ≡ length rows → k + most-left (view x) ≤ 1 + most-left (view s)
-        → then ≡ written now at (numbers-of rows) → Ahead x (at + 6 * k) to then
+        → ((y : State) → length (y .lines) ≡ length (view x .lines) → put s y ≡ put x y) → rows ≡ rows-of (event + 1) a → k ≡ length rows → k + most-left (view x) ≤ 1 + most-left (view s)
+        → then ≡ written now at (numbers-of rows) → Ahead x (at + 6 * k) to (event + 1) then
     step x rows k v same puts told count few wrote =
         let rest : List (List ℕ) = events-of (drop to b) in
         let d : List ℤ = h .done in
@@ -106,7 +115,8 @@ module _ (o : Session) (b : List ℕ) (out : List ℤ) where
           done = d ++ n;
           valid = v;
           inside = c .inside;
-          answers = h .answers ∙ ap (λ (z : List ℤ). d ++ z) (rows-there ∙ rw (told, same)) ∙ sym (append-assoc d n (answers-told (view x) rest));
+          counted = omega (arith, h .counted, fewer b c);
+          answers = h .answers ∙ ap (λ (z : List ℤ). d ++ z) (rows-there ∙ rw (told, same)) ∙ sym (append-assoc d n (answers-from (event + 1 + 1) (view x) rest));
           session =
               h .session ∙ ap (put s) (state-there ∙ ap (λ (y : State). finally y rest) (sym same))
               ∙ puts (finally (view x) rest) (finally-kept (view x) rest);
@@ -118,8 +128,8 @@ module _ (o : Session) (b : List ℕ) (out : List ℤ) where
         }
 
     replied : (q : Answer) → a ≡ q → Right (view s) (read piece) q → Valid (reply-of s (read piece) q .session) → (then : List ℤ)
-        → then ≡ written now at (numbers-of (reply-rows (reply-of s (read piece) q .answer) (reply-of s (read piece) q .shifts) (reply-of s (read piece) q .made)))
-        → Ahead (reply-of s (read piece) q .session) (at + 6 * rows-count (reply-of s (read piece) q .answer) (reply-of s (read piece) q .made)) to then
+        → then ≡ written now at (numbers-of (reply-rows (event + 1) (reply-of s (read piece) q .answer) (reply-of s (read piece) q .shifts) (reply-of s (read piece) q .made)))
+        → Ahead (reply-of s (read piece) q .session) (at + 6 * rows-count (reply-of s (read piece) q .answer) (reply-of s (read piece) q .made)) to (event + 1) then
     unfolding reply-of
     replied (accepted cs) p r v then wrote =
         let x : State = next (view s) (read piece) (accepted cs) in
@@ -128,26 +138,26 @@ module _ (o : Session) (b : List ℕ) (out : List ℤ) where
         (rw p (unfold rows-of in refl)) (sym (length-map cs Row.Shift)) (omega (arith, next-spend (view s) (read piece) (accepted cs) (h .valid .sound) r, ap most-left (view-put s x)))
         (wrote ∙ ap (λ (ds : List ShiftLine). written now at (numbers-of (map Row.Shift ds))) (padded-take 16 no-shift cs))
     replied (refused why) p r v then wrote =
-        step s (Row.RefusedEvent why ∷ []) 1 v (rw p (unfold next in refl)) (λ y e. refl) (rw p (unfold rows-of in refl)) refl (omega arith) wrote
+        step s (Row.RefusedEvent why (event + 1) ∷ []) 1 v (rw p (unfold next in refl)) (λ y e. refl) (rw p (unfold rows-of in refl)) refl (omega arith) wrote
 
     right : Right (view s) (read piece) a
     right = unfold run Answers in run-right (view s) (piece ∷ []) (h .valid .sound) .0
 
     pub ahead-turn : (r : Reply) → r ≡ reply-of s (read piece) a → (k : ℕ) → k ≡ at + 6 * rows-count (r .answer) (r .made) → (then : List ℤ)
-        → then ≡ written now at (numbers-of (reply-rows (r .answer) (r .shifts) (r .made))) → Ahead (r .session) k to then
+        → then ≡ written now at (numbers-of (reply-rows (event + 1) (r .answer) (r .shifts) (r .made))) → Ahead (r .session) k to (event + 1) then
     ahead-turn r e k f then wrote =
         rw (f, e)
         (replied a refl right (valid-event s piece (h .valid)) then
-        (wrote ∙ ap (λ (q : Reply). written now at (numbers-of (reply-rows (q .answer) (q .shifts) (q .made)))) e))
+        (wrote ∙ ap (λ (q : Reply). written now at (numbers-of (reply-rows (event + 1) (q .answer) (q .shifts) (q .made)))) e))
 
-  module _ {s : Session} {at from : ℕ} {now : List ℤ} (h : Ahead s at from now) (last : from ≡ length b) (enough : feed-needs (length b) ≤ length out) where
+  module _ {s : Session} {at from event : ℕ} {now : List ℤ} (h : Ahead s at from event now) (last : from ≡ length b) (enough : feed-needs (length b) ≤ length out) where
     none-left : events-of (drop from b) ≡ []
     unfolding pieces
     none-left = rw (last, drop-length b)
 
     told-all : answers-told (view o) (events-of b) ≡ h .done
-    unfolding run rows-of-all
-    told-all = h .answers ∙ ap (λ (z : List (List ℕ)). h .done ++ answers-told (view s) z) none-left ∙ append-nil (h .done)
+    unfolding run rows-from
+    told-all = h .answers ∙ ap (λ (z : List (List ℕ)). h .done ++ answers-from (event + 1) (view s) z) none-left ∙ append-nil (h .done)
 
     state-all : put o (finally (view o) (events-of b)) ≡ s
     unfolding finally

@@ -112,15 +112,15 @@ quiet-changed s quiet e (Change.Quote p) v (said, named) h =
 
 -- ---- at the head of the loop: what is ahead, the ids in the array, and the second before which nothing is due
 module _ (o : Session) (b : List ℕ) (out : List ℤ) (n : ℕ) (got : List ℕ) where
-  pub record Turn (s : Session) (quiet : Seconds) (at from : ℕ) (now : List ℤ) : Type 0 where
-    pub ahead : Ahead o b out s at from now
+  pub record Turn (s : Session) (quiet : Seconds) (at from event : ℕ) (now : List ℤ) : Type 0 where
+    pub ahead : Ahead o b out s at from event now
     pub named : take n got ≡ session-ids (view s)
     pub none-due : Quiet quiet (view s)
 
-  pub turn-start : Valid o → feed-needs (length b) ≤ length out → take n got ≡ session-ids (view o) → Turn o (seconds 0) 0 0 out
+  pub turn-start : Valid o → feed-needs (length b) ≤ length out → take n got ≡ session-ids (view o) → Turn o (seconds 0) 0 0 0 out
   turn-start v h e = record { ahead = ahead-start o b out v h; named = e; none-due = quiet-start (view o) }
 
-  module _ {s : Session} {quiet : Seconds} {at from to : ℕ} {now : List ℤ} (h : Turn s quiet at from now) (g : from < length b) (c : Cut from (length b) to) where
+  module _ {s : Session} {quiet : Seconds} {at from event to : ℕ} {now : List ℤ} (h : Turn s quiet at from event now) (g : from < length b) (c : Cut from (length b) to) where
     abbrev e : Event
     e = read (take (to - from) (drop from b))
 
@@ -131,12 +131,12 @@ module _ (o : Session) (b : List ℕ) (out : List ℤ) (n : ℕ) (got : List ℕ
     shifts-fit made few = omega (arith, h .ahead .left, ahead-long o b out (h .ahead))
 
     pub turn-refused : (why : EventReason) → verdict (view s) e ≡ EventAnswer.Refused why → {then : List ℤ}
-        → then ≡ written now at (row-numbers (Row.RefusedEvent why)) → Turn s quiet (at + 6) to then
+        → then ≡ written now at (row-numbers (Row.RefusedEvent why (event + 1))) → Turn s quiet (at + 6) to (event + 1) then
     turn-refused why said wrote =
         record {
           ahead =
               ahead-turn o b out (h .ahead) g c (refused-with s why) (refused-is s e why said) (at + 6) (omega arith) _
-              (wrote ∙ ap (written now at) (sym (numbers-one (Row.RefusedEvent why))));
+              (wrote ∙ ap (written now at) (sym (numbers-one (Row.RefusedEvent why (event + 1)))));
           named = h .named;
           none-due = h .none-due;
         }
@@ -176,7 +176,7 @@ module _ (o : Session) (b : List ℕ) (out : List ℤ) (n : ℕ) (got : List ℕ
           (subst (λ (l : Line). HoldsIn (l .holds)) stands (passes .0), passes .1)
 
       pub turn-taken : (ch : Change) → v .change ≡ ch → (z : Session) → z ≡ moved-on s′ (lines-after s′ ch) (s′ .clock) → (later : Seconds)
-          → later ≡ until-after s′ quiet′ ch → Turn (moved-on z (z .lines) (v .time)) later at′ to now′
+          → later ≡ until-after s′ quiet′ ch → Turn (moved-on z (z .lines) (v .time)) later at′ to (event + 1) now′
       turn-taken ch ec z ez later el =
           record {
             ahead = ahead-turn o b out (h .ahead) g c (handed r z (v .time)) told at′ (k .on) now′ (k .told);

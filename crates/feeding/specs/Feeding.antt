@@ -8,6 +8,7 @@ use lib.IntN.{ℤ}
 use lib.ListN.{length}
 use Rattle.method.specs.words.Types.{State}
 use Rattle.method.specs.words.Ranges.{most-shifts}
+use Rattle.method.specs.declared.Row.{Row}
 use Rattle.method.specs.told.Rows.{rows-of-all, numbers-of}
 use Rattle.method.specs.told.Program.{events-of}
 use Rattle.method.specs.computed.Search.{run, finally}
@@ -26,9 +27,12 @@ feed-needs size = needed size most-shifts
 abbrev pub answers-told : State → List (List ℕ) → List ℤ
 answers-told s events = numbers-of (rows-of-all (run s events))
 
--- the numbers that a session tells for the bytes b, and the session that they leave
+-- the rows that a session tells for the bytes b, the same in numbers, and the session that they leave
+abbrev pub rows-for : Session → List ℕ → List Row
+rows-for s b = rows-of-all (run (view s) (events-of b))
+
 abbrev pub told : Session → List ℕ → List ℤ
-told s b = answers-told (view s) (events-of b)
+told s b = numbers-of (rows-for s b)
 
 abbrev pub left-by : Session → List ℕ → Session
 left-by s b = put s (finally (view s) (events-of b))

@@ -51,7 +51,8 @@ fn quiet_until(s: Session) -> Seconds
 
 // Every event of the buffer in turn; a last one that is cut short is refused like any string that is no event. The room is worked out
 // first: where it is not there, nothing is done. The session stays in its place: before the second `quiet` no hold is due, and from it on
-// that second is found anew before the session goes by value to be served; then it is 0, to be found at the next event.
+// that second is found anew before the session goes by value to be served; then it is 0, to be found at the next event. `event` is the
+// place of the event at hand.
 pub fn feed(mut s: Session, events: &[u8], out: &mut [i64]) -> Fed
     requires { ⌜ Valid s ⌝ }
     ensures { λ r. ⌜ r ≡ fed s (length (now (out .entry))) (now (events .entry)) ⌝ }
@@ -71,7 +72,9 @@ pub fn feed(mut s: Session, events: &[u8], out: &mut [i64]) -> Fed
     let mut quiet = Seconds(0);
     let mut at: usize = 0;
     let mut from: usize = 0;
+    let mut event: usize = 0;
     while from < size {
+        event = event + 1;
         let to = events::cut(from, size);
         let e = events::read(&events[from..to]);
         from = to;
@@ -81,7 +84,7 @@ pub fn feed(mut s: Session, events: &[u8], out: &mut [i64]) -> Fed
         let guess = guesses[slot];
         match verdict::screen(&ids[..n], guess, end, clock, e) {
             Verdict::Refused(why) => {
-                rows::write(out, at, Row::RefusedEvent(why));
+                rows::write(out, at, Row::RefusedEvent(why, event));
                 at = at + 6;
             }
             Verdict::Taken(v) => {

@@ -31,10 +31,10 @@ use Rattle.feeding.proofs.feed.Statement.{statement}
 use Rattle.feeding.proofs.feed.Tie as tie
 
 abbrev Inv-loop : tie.InvT-loop
-Inv-loop events out₀ s₀ size needed n ids guesses quiet₀ at₀ from₀ out s quiet at from = Turn s₀ events out₀ n ids s quiet at from out
+Inv-loop events out₀ s₀ size needed n ids guesses quiet₀ at₀ from₀ event₀ out s quiet at from event = Turn s₀ events out₀ n ids s quiet at from event out
 
 abbrev μ-loop : tie.MeasureT-loop
-μ-loop events out₀ s₀ size needed n ids guesses quiet₀ at₀ from₀ out s quiet at from = size - from
+μ-loop events out₀ s₀ size needed n ids guesses quiet₀ at₀ from₀ event₀ out s quiet at from event = size - from
 
 -- ---- the places that ask for facts, and the way back from each to those that know them
 abbrev Start : Type 0
@@ -129,6 +129,9 @@ loop-holds c =
     (omega (arith, asked .before .needed .ensures, asked .if1 .left)) (got .ensures .1)
 
 -- ---- the event at hand is cut out and read
+add-event : tie.Need-add-event Inv-loop μ-loop
+add-event c = omega (arith, c .before .loop .inv .ahead .counted)
+
 cut-requires : tie.Need-cut-requires Inv-loop μ-loop
 cut-requires c κs = c .loop-test .taken
 
@@ -339,6 +342,7 @@ feed-spec =
     ids-requires
     guessed-requires
     loop-holds
+    add-event
     cut-requires
     sub-read
     part-read-start
