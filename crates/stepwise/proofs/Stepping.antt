@@ -28,25 +28,25 @@ use Rattle.feeding.proofs.Feeding.{rows-count, reply-rows, Ahead, ahead-long, a
 use Rattle.stepwise.specs.ReplyRows.{told-of}
 
 -- ---- the rows of an answer
-told-rows : (q : EventAnswer) (cs : List ShiftLine) (made : ℕ) → told-of q cs made ≡ numbers-of (reply-rows q cs made)
+told-rows : (place : ℕ) (q : EventAnswer) (cs : List ShiftLine) (made : ℕ) → told-of place q cs made ≡ numbers-of (reply-rows place q cs made)
 unfolding rows-of
-told-rows EventAnswer.Accepted cs made = refl
-told-rows (EventAnswer.Refused why) cs made = refl
+told-rows place EventAnswer.Accepted cs made = refl
+told-rows place (EventAnswer.Refused why) cs made = refl
 
 -- an answer that is known to be q has as many numbers as q's rows
-pub told-long : {a q : EventAnswer} → a ≡ q → (cs : List ShiftLine) (made : ℕ) → length cs ≡ 16 → made ≤ 16
-    → length (told-of a cs made) ≡ 6 * rows-count q made
-told-long {a} {q} e cs made full few =
-    ap (λ (x : EventAnswer). length (told-of x cs made)) e ∙ ap length (told-rows q cs made) ∙ numbers-long (reply-rows q cs made)
+pub told-long : (place : ℕ) {a q : EventAnswer} → a ≡ q → (cs : List ShiftLine) (made : ℕ) → length cs ≡ 16 → made ≤ 16
+    → length (told-of place a cs made) ≡ 6 * rows-count q made
+told-long place {a} {q} e cs made full few =
+    ap (λ (x : EventAnswer). length (told-of place x cs made)) e ∙ ap length (told-rows place q cs made) ∙ numbers-long (reply-rows place q cs made)
     ∙ ap (λ (n : ℕ). 6 * n) (many q)
   where
-    many : (x : EventAnswer) → length (reply-rows x cs made) ≡ rows-count x made
+    many : (x : EventAnswer) → length (reply-rows place x cs made) ≡ rows-count x made
     many EventAnswer.Accepted = length-map (take made cs) Row.Shift ∙ length-take-le made cs (omega (arith, full, few))
     many (EventAnswer.Refused why) = refl
 
 -- ---- a turn of the loop
-module _ (o : Session) (b : List ℕ) (out : List ℤ) {s : Session} {at from to : ℕ} {now : List ℤ} where
-  module _ (h : Ahead o b out s at from now) (g : from < length b) (c : Cut from (length b) to) where
+module _ (o : Session) (b : List ℕ) (out : List ℤ) {s : Session} {at from event to : ℕ} {now : List ℤ} where
+  module _ (h : Ahead o b out s at from event now) (g : from < length b) (c : Cut from (length b) to) where
     abbrev piece : List ℕ
     piece = take (to - from) (drop from b)
 
@@ -71,14 +71,14 @@ module _ (o : Session) (b : List ℕ) (out : List ℤ) {s : Session} {at from to
       fit : Fits r
       fit = rw e (fits (answer (view s) (read piece)) right)
 
-      long : length (told-of (r .answer) (r .shifts) (r .made)) ≡ 6 * rows-count (r .answer) (r .made)
-      long = told-long {a = r .answer} refl (r .shifts) (r .made) (fit .full) (fit .few)
+      long : length (told-of (event + 1) (r .answer) (r .shifts) (r .made)) ≡ 6 * rows-count (r .answer) (r .made)
+      long = told-long (event + 1) {a = r .answer} refl (r .shifts) (r .made) (fit .full) (fit .few)
 
-      pub step-fits : (r .made ≤ 16) × (at + length (told-of (r .answer) (r .shifts) (r .made)) ≤ length now)
+      pub step-fits : (r .made ≤ 16) × (at + length (told-of (event + 1) (r .answer) (r .shifts) (r .made)) ≤ length now)
       step-fits = (fit .few, omega (arith, fit .room, long, ahead-long o b out h))
 
-      pub step-turn : (k : ℕ) → k ≡ at + length (told-of (r .answer) (r .shifts) (r .made)) → (then : List ℤ)
-          → then ≡ written now at (told-of (r .answer) (r .shifts) (r .made)) → Ahead o b out (r .session) k to then
+      pub step-turn : (k : ℕ) → k ≡ at + length (told-of (event + 1) (r .answer) (r .shifts) (r .made)) → (then : List ℤ)
+          → then ≡ written now at (told-of (event + 1) (r .answer) (r .shifts) (r .made)) → Ahead o b out (r .session) k to (event + 1) then
       step-turn k f then wrote =
           ahead-turn o b out h g c r e k (omega (arith, f, long)) then
-          (wrote ∙ ap (written now at) (told-rows (r .answer) (r .shifts) (r .made)))
+          (wrote ∙ ap (written now at) (told-rows (event + 1) (r .answer) (r .shifts) (r .made)))

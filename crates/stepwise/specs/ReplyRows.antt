@@ -8,6 +8,6 @@ use Rattle.method.specs.declared.ShiftLine.{ShiftLine}
 use Rattle.method.specs.told.Rows.{rows-of, numbers-of}
 use Rattle.method.specs.computed.Search.{as-answer}
 
--- of an answer, its array of shift lines, and how many of them are made
-abbrev pub told-of : EventAnswer → List ShiftLine → ℕ → List ℤ
-told-of answer shifts made = numbers-of (rows-of (as-answer answer (take made shifts)))
+-- of the event's place, its answer, the array of shift lines, and how many of them are made
+abbrev pub told-of : ℕ → EventAnswer → List ShiftLine → ℕ → List ℤ
+told-of place answer shifts made = numbers-of (rows-of place (as-answer answer (take made shifts)))

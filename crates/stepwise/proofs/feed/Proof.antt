@@ -11,10 +11,10 @@ use Rattle.stepwise.proofs.feed.Statement.{statement}
 use Rattle.stepwise.proofs.feed.Tie as tie
 
 abbrev Inv-loop : tie.InvT-loop
-Inv-loop events out₀ size needed session₀ at₀ from₀ out session at from = Ahead session₀ events out₀ session at from out
+Inv-loop events out₀ size needed session₀ at₀ from₀ event₀ out session at from event = Ahead session₀ events out₀ session at from event out
 
 abbrev μ-loop : tie.MeasureT-loop
-μ-loop events out₀ size needed session₀ at₀ from₀ out session at from = size - from
+μ-loop events out₀ size needed session₀ at₀ from₀ event₀ out session at from event = size - from
 
 needed-requires : tie.Need-needed-requires Inv-loop μ-loop
 needed-requires c κs = omega arith
@@ -32,6 +32,9 @@ loop-holds c =
     let s = c .before .before .before in
     ahead-start (s .args .first) (now (s .args .events)) (now (s .args .out)) (s .pre)
     (omega (arith, c .before .needed .ensures, c .if1 .left))
+
+add-event : tie.Need-add-event Inv-loop μ-loop
+add-event c = omega (arith, c .before .loop .inv .counted)
 
 cut-requires : tie.Need-cut-requires Inv-loop μ-loop
 cut-requires c κs = c .loop-test .taken
@@ -58,9 +61,11 @@ told-requires c κs =
     let s = c .before .before .before .before .before .before .before .before .before .before .before in
     let at = c .before .before .before .before .before .before .before .loop in
     let e = c .before .before .before .event in
+    let fits =
     step-fits (s .args .first) (now (s .args .events)) (now (s .args .out)) (at .inv)
     (c .before .before .before .before .before .before .loop-test .taken) (cut (c .before .before .before .before .before))
-    (e .result) (e .ensures)
+    (e .result) (e .ensures) in
+    (omega (arith, at .inv .counted), fits .0, fits .1)
 
 loop-less : tie.Need-loop-less Inv-loop μ-loop
 loop-less c = let k = cut (c .before .before .before .before .before .before .before) in omega (arith, k .on, k .inside)
@@ -101,6 +106,7 @@ feed-spec =
     needed-requires
     returns
     loop-holds
+    add-event
     cut-requires
     sub-event
     part-event-start

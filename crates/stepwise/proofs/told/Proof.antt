@@ -20,7 +20,7 @@ write-shifts-requires : tie.Need-write-shifts-requires
 write-shifts-requires c κs =
     let s = c .before .before .before in
     let all : length (s .args .shifts) ≡ 16 = search (full, s .good) in
-    (s .pre .0, omega (arith, s .pre .1, told-long (c .before .enum-told .given .1) (s .args .shifts) (s .args .made) all (s .pre .0)))
+    (s .pre .1, omega (arith, s .pre .2, told-long (s .args .place) (c .before .enum-told .given .1) (s .args .shifts) (s .args .made) all (s .pre .1)))
 
 enum-known-answer : tie.Need-enum-known-answer
 enum-known-answer c = search needs
@@ -29,7 +29,7 @@ write-requires : tie.Need-write-requires
 write-requires c κs =
     let s = c .before .before .before .before in
     let all : length (s .args .shifts) ≡ 16 = search (full, s .good) in
-    omega (arith, s .pre .1, told-long (c .before .before .answer .given .1) (s .args .shifts) (s .args .made) all (s .pre .0))
+    omega (arith, s .pre .2, told-long (s .args .place) (c .before .before .answer .given .1) (s .args .shifts) (s .args .made) all (s .pre .1))
 
 add-result : tie.Need-add-result
 add-result c = search needs
@@ -44,7 +44,7 @@ returns c =
     let is = c .before .before .before .enum-told .given .1 in
     let w = c .before .write-shifts .ensures in
     let all : length (s .args .shifts) ≡ 16 = search (full, s .good) in
-    (omega (arith, w .0, told-long is (s .args .shifts) (s .args .made) all (s .pre .0)), rw is (w .1))
+    (omega (arith, w .0, told-long (s .args .place) is (s .args .shifts) (s .args .made) all (s .pre .1)), rw is (w .1))
 
 same-length-2 : tie.Need-same-length-2
 same-length-2 c = search needs
@@ -55,8 +55,8 @@ returns-2 c =
     let s = c .before .before .before .before .before .before in
     let is = c .before .before .before .before .answer .given .1 in
     let all : length (s .args .shifts) ≡ 16 = search (full, s .good) in
-    let told = c .before .write .ensures ∙ ap (written (now (s .args .out)) (s .args .at)) (sym (numbers-one (Row.RefusedEvent _))) in
-    (omega (arith, told-long is (s .args .shifts) (s .args .made) all (s .pre .0)), rw is told)
+    let told = c .before .write .ensures ∙ ap (written (now (s .args .out)) (s .args .at)) (sym (numbers-one (Row.RefusedEvent _ (s .args .place)))) in
+    (omega (arith, told-long (s .args .place) is (s .args .shifts) (s .args .made) all (s .pre .1)), rw is told)
 
 pub told-spec : {M : Type 1} → statement M
 told-spec =
