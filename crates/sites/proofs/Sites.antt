@@ -15,15 +15,15 @@ use Rattle.method.proofs.Ticks.{alike-is-same}
 use Rattle.corridor.specs.declared.Session.{Session}
 use Rattle.feeding.specs.declared.Fed.{Fed}
 use Rattle.corridor.specs.View.{view, put, Valid}
-use Rattle.feeding.specs.Feeding.{told, left-by}
-use Rattle.feeding.specs.Chunks.{all-bytes}
+use Rattle.feeding.specs.Feeding.{rows-for, told, left-by}
+use Rattle.feeding.specs.Chunks.{all-bytes, rows-in}
 use Rattle.corridor.specs.Engine.{one-by-one, left-after}
 use Rattle.corridor.proofs.Engine.{valid-proper, engine-runs, engine-is-right}
 use Rattle.corridor.proofs.Views.{view-put}
 use Rattle.feeding.proofs.Chunks.{fed-is, fed-into-is}
-use Rattle.feeding.proofs.Joined.{one-buffer}
+use Rattle.feeding.proofs.Joined.{one-buffer, each-or-on}
 use Rattle.sites.specs.Sites.{EventsAlike, only-shifts, FedWith, ToldBy, BuffersAlike, ChunksAsHanded, ChunksAlike}
-use Rattle.sites.proofs.Rows.{only-shifts-are-lines}
+use Rattle.sites.proofs.Rows.{lines-in, lines-append, lines-still, only-shifts-of, only-shifts-are-lines}
 
 -- ---- handed to `event`
 -- sessions that come from one and show one state are one
@@ -79,8 +79,9 @@ buffers-alike s b d v a out lent r q now then f g =
 pub chunks-as-handed : ChunksAsHanded
 chunks-as-handed s cs v w =
     let one = one-buffer s cs v w in
+    let same : lines-in (rows-in s cs) ≡ lines-in (rows-for s (all-bytes cs)) = each-or-on lines-in lines-append lines-still s cs ∙ ap lines-in (one .rows) in
     record {
-      lines = ap only-shifts (one .numbers) ∙ told-as-handed s (all-bytes cs) v;
+      lines = only-shifts-of (rows-in s cs) ∙ rw same (sym (only-shifts-of (rows-for s (all-bytes cs))) ∙ told-as-handed s (all-bytes cs) v);
       session = one .session ∙ left-as-handed s (all-bytes cs) v;
     }
 
