@@ -2,7 +2,7 @@
 use borrow.Author.Needs.{needs}
 use borrow.Author.Tests.{lt-ltb, le-ltb}
 use denote.Ref.{now}
-use mathlib.Core.Path.{_≡_, refl, ap, _∙_}
+use mathlib.Core.Path.{_≡_, refl, sym, ap, subst, _∙_}
 use mathlib.Core.List.{List, map}
 use Prim.Native.Nat.{ℕ, _+_, _*_, _-_, _≤_, _<_}
 use native.Mathlib.Omega.{arith}
@@ -12,6 +12,7 @@ use Rattle.method.specs.words.Types.{blank}
 use Rattle.method.specs.told.Rows.{closing-row, row-numbers, numbers-of}
 use Rattle.method.specs.declared.Row.{Row}
 use Rattle.rows.specs.Buffer.{written}
+use Rattle.rows.specs.Fits.{Fits}
 use Rattle.rows.proofs.Buffer.{nothing-written, row-on, long-on}
 use Rattle.closing.specs.Closing.{closed, closed-into}
 use Rattle.corridor.proofs.Views.{ranged}
@@ -49,7 +50,8 @@ mul-write : tie.Need-mul-write Inv-loop μ-loop
 mul-write c = omega (arith, c .before .before .before .before .before .before .pre .few)
 
 write-requires : tie.Need-write-requires Inv-loop μ-loop
-write-requires c κs = omega (arith, c .before .before .before .before .loop .inv .2)
+unfolding closing-row
+write-requires c κs = (omega (arith, c .before .before .before .before .loop .inv .2), subst Fits (sym (c .before .closing-row .ensures)) tt)
 
 add-i : tie.Need-add-i Inv-loop μ-loop
 add-i c = omega (arith, c .before .before .before .before .before .before .before .before .pre .few)
