@@ -2,10 +2,7 @@
 use mathlib.Core.Path.{_≡_, refl}
 use mathlib.Core.List.{List, [], _∷_}
 use lib.IntN.{ℤ, pos}
-use lib.ListN.{getD}
 use Rattle.method.specs.told.Refusals.{event-number, mark, limits-said, report-said}
-use Rattle.method.specs.told.Rows.{row-numbers}
-use Rattle.method.specs.declared.Row.the-variants as Row
 use Rattle.host_report.specs.ReportRows.{report-rows}
 use Rattle.host_questions.specs.Names.{Limits, EventReason, LimitsAnswer, Report, ReportAnswer}
 use Rattle.host_questions.specs.AskedNumbers.{told-into, report-into}
@@ -19,10 +16,6 @@ pub limits-some : (a : LimitsAnswer) (k : Limits) (m : ℤ) (out : List ℤ) →
     → (pos 0 ≡ pos (limits-said a .number)) × (k .lower .0 ∷ k .upper .0 ∷ m ∷ [] ≡ told-into out (limits-said a))
 unfolding limits-said
 limits-some a k m out e f = rw (e, f) (refl, refl)
-
-pub number-of-row : (why : EventReason) (row : List ℤ) → row ≡ row-numbers (Row.RefusedEvent why) → getD row 1 (pos 0) ≡ pos (event-number why)
-unfolding row-numbers
-number-of-row why row f = rw f refl
 
 pub report-none : (a : ReportAnswer) (out : List (List ℤ)) → a ≡ ReportAnswer.Refused EventReason.UnknownId
     → (pos 13 ≡ pos (report-said a .number)) × (out ≡ report-into out a)

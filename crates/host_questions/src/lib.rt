@@ -18,7 +18,6 @@ use method::EventReason;
 use method::Line;
 use method::PlaceAnswer;
 use method::Report;
-use method::Row;
 use numbers::Steps;
 use questions::Sought;
 
@@ -63,10 +62,7 @@ fn place_number(answer: PlaceAnswer) -> i64
         PlaceAnswer::Below => -1,
         PlaceAnswer::Inside => 0,
         PlaceAnswer::Above => 1,
-        PlaceAnswer::Refused(why) => {
-            let row = rows::row_numbers(Row::RefusedEvent(why));
-            row[1]
-        }
+        PlaceAnswer::Refused(why) => rows::event_number(why),
     }
 }
 

@@ -6,7 +6,7 @@ use native.Mathlib.Omega.{arith}
 use lib.IntN.{ℤ, pos}
 use lib.ListN.{length, getD, length-append}
 use Rattle.method.specs.words.Sessions.{Answer, accepted, refused, joined}
-use Rattle.method.specs.told.Refusals.{table-said, event-said}
+use Rattle.method.specs.told.Refusals.{event-number, table-said, event-said}
 use Rattle.method.specs.told.Rows.{row-numbers}
 use Rattle.method.specs.computed.Event.{read}
 use Rattle.method.specs.computed.Search.{answer, run}
@@ -42,10 +42,9 @@ refused-stays s e (accepted cs) why h = absurd (subst IsRefused (sym h) tt)
 refused-stays s e (refused w) why h = refl
 
 -- ---- what is said in numbers
-pub event-told : (a : EventAnswer) (why : EventReason) (row : List ℤ) → a ≡ EventAnswer.Refused why → row ≡ row-numbers (Row.RefusedEvent why)
-    → getD row 1 (pos 0) ≡ pos (event-said a .number)
-unfolding event-said row-numbers
-event-told a why row e f = rw (e, f) refl
+pub event-told : (a : EventAnswer) (why : EventReason) → a ≡ EventAnswer.Refused why → pos (event-number why) ≡ pos (event-said a .number)
+unfolding event-said
+event-told a why e = rw e refl
 
 pub event-taken : (a : EventAnswer) → a ≡ EventAnswer.Accepted → pos 0 ≡ pos (event-said a .number)
 unfolding event-said

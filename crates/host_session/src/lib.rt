@@ -70,10 +70,7 @@ fn by_value(
     *made = r.made;
     let answer = r.answer;
     match answer {
-        EventAnswer::Refused(why) => {
-            let row = rows::row_numbers(Row::RefusedEvent(why));
-            row[1]
-        }
+        EventAnswer::Refused(why) => rows::event_number(why),
         EventAnswer::Accepted => {
             let next = r.session;
             host_memory::kept(session, next);
@@ -143,8 +140,7 @@ pub fn event(
     match said {
         Verdict::Refused(why) => {
             *made = 0;
-            let row = rows::row_numbers(Row::RefusedEvent(why));
-            row[1]
+            rows::event_number(why)
         }
         Verdict::Taken(v) => {
             let t = v.time;

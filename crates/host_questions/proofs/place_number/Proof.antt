@@ -2,7 +2,6 @@
 use borrow.Author.Needs.{needs}
 use mathlib.Core.Path.{sym, ap, _∙_}
 use Rattle.host_questions.specs.AskedNumbers.{place-number}
-use Rattle.host_questions.proofs.Answers.{number-of-row}
 use Rattle.host_questions.proofs.place_number.Statement.{statement}
 use Rattle.host_questions.proofs.place_number.Tie as tie
 
@@ -18,11 +17,8 @@ enum-told-3 c = search needs
 enum-known-answer : tie.Need-enum-known-answer
 enum-known-answer c = search needs
 
-row-numbers-requires : tie.Need-row-numbers-requires
-row-numbers-requires c κs = search needs
-
-array-copy-out-result : tie.Need-array-copy-out-result
-array-copy-out-result c = search needs
+event-number-requires : tie.Need-event-number-requires
+event-number-requires c κs = search needs
 
 returns : tie.Need-returns
 returns c = sym (ap place-number (c .enum-told .given .1))
@@ -34,7 +30,7 @@ returns-3 : tie.Need-returns-3
 returns-3 c = sym (ap place-number (c .enum-told3 .given .1))
 
 returns-4 : tie.Need-returns-4
-returns-4 c = (search needs) ∙ number-of-row _ _ (c .before .row-numbers .ensures) ∙ sym (ap place-number (c .before .before .before .answer .given .1))
+returns-4 c = (search needs) ∙ c .event-number .ensures ∙ sym (ap place-number (c .before .before .answer .given .1))
 
 pub place-number-spec : {M : Type 1} → statement M
 place-number-spec =
@@ -44,8 +40,7 @@ place-number-spec =
     enum-told-2
     enum-told-3
     enum-known-answer
-    row-numbers-requires
-    array-copy-out-result
+    event-number-requires
     returns
     returns-2
     returns-3

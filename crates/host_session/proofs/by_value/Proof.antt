@@ -33,11 +33,8 @@ write-shifts-requires c κs =
 enum-known-answer : tie.Need-enum-known-answer
 enum-known-answer c = search needs
 
-row-numbers-requires : tie.Need-row-numbers-requires
-row-numbers-requires c κs = search needs
-
-array-copy-out-result : tie.Need-array-copy-out-result
-array-copy-out-result c = search needs
+event-number-requires : tie.Need-event-number-requires
+event-number-requires c κs = search needs
 
 enum-told : tie.Need-enum-told
 enum-told c = search needs
@@ -50,14 +47,14 @@ reply-is c = c .event .ensures ∙ ap (λ (s : Session). reply-to s (now (c .bef
 
 returns : tie.Need-returns
 returns c =
-    let s = c .before .before .before .before .before .before .before .before .before .before .before .before .args in
-    let e = reply-is (c .before .before .before .before .before .before .before .before) in
-    let said = sym (ap (λ (z : Reply). z .answer) e) ∙ c .before .before .before .answer .given .1 in (
-      (search needs) ∙ event-told (reply-in (now (s .session)) (now (s .bytes)) .answer) _ _ said (c .before .row-numbers .ensures),
+    let s = c .before .before .before .before .before .before .before .before .before .before .before .args in
+    let e = reply-is (c .before .before .before .before .before .before .before) in
+    let said = sym (ap (λ (z : Reply). z .answer) e) ∙ c .before .before .answer .given .1 in (
+      (search needs) ∙ c .event-number .ensures ∙ event-told (reply-in (now (s .session)) (now (s .bytes)) .answer) _ said,
       (
         ap (λ (z : Reply). z .made) e,
         (
-          c .before .before .before .before .before .write-shifts .ensures .1 ∙ ap (λ (z : Reply). written (now (s .out)) 0 (shift-rows z)) e,
+          c .before .before .before .before .write-shifts .ensures .1 ∙ ap (λ (z : Reply). written (now (s .out)) 0 (shift-rows z)) e,
           record { session = sym (refused-stays (session-in (now (s .session))) (read (now (s .bytes))) (answer (view (session-in (now (s .session)))) (read (now (s .bytes)))) _ said); untouched = λ _. refl },
         ),
       ),
@@ -85,8 +82,7 @@ by-value-spec =
     event-requires
     write-shifts-requires
     enum-known-answer
-    row-numbers-requires
-    array-copy-out-result
+    event-number-requires
     enum-told
     kept-requires
     returns

@@ -63,11 +63,8 @@ looked-requires c κs = search needs
 enum-known-said : tie.Need-enum-known-said
 enum-known-said c = search needs
 
-row-numbers-requires : tie.Need-row-numbers-requires
-row-numbers-requires c κs = search needs
-
-array-copy-out-result : tie.Need-array-copy-out-result
-array-copy-out-result c = search needs
+event-number-requires : tie.Need-event-number-requires
+event-number-requires c κs = search needs
 
 enum-known-said-2 : tie.Need-enum-known-said-2
 enum-known-said-2 c = search needs
@@ -96,10 +93,10 @@ returns c = search needs
 
 returns-2 : tie.Need-returns-2
 returns-2 c =
-    let at : tie.After-looked = c .before .before .before .before .before in
-    let why = c .before .before .before .said .given in
+    let at : tie.After-looked = c .before .before .before .before in
+    let why = c .before .before .said .given in
     let e = refused-is (given at) (read (bytes at)) _ (subst (Says (view (given at)) (read (bytes at))) (why .1) (said at)) in (
-      (search needs) ∙ event-told (reply at .answer) _ _ (sym (ap (λ (z : Reply). z .answer) e)) (c .before .row-numbers .ensures),
+      (search needs) ∙ c .event-number .ensures ∙ event-told (reply at .answer) _ (sym (ap (λ (z : Reply). z .answer) e)),
       (
         ap (λ (z : Reply). z .made) e,
         (ap (λ (z : Reply). written (now (start at .args .out)) 0 (shift-rows z)) e, record { session = ap (λ (z : Reply). z .session) e; untouched = λ _. refl }),
@@ -131,8 +128,7 @@ event-spec =
     read-requires
     looked-requires
     enum-known-said
-    row-numbers-requires
-    array-copy-out-result
+    event-number-requires
     enum-known-said-2
     by-value-requires
     returns
