@@ -8,15 +8,13 @@ use method::LimitsAnswer;
 use method::PlaceAnswer;
 use method::Report;
 use method::ReportAnswer;
-use method::Row;
 
 fn wide(n: u32) -> i64 {
     (n as u64) as i64
 }
 
 fn refused(words: &[u8], why: EventReason) {
-    let numbers = rows::row_numbers(Row::RefusedEvent(why));
-    saying::row(words, &[numbers[1]]);
+    saying::row(words, &[rows::event_number(why)]);
 }
 
 pub(crate) fn place(words: &[u8], answer: PlaceAnswer) {

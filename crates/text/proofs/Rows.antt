@@ -23,7 +23,7 @@ letter-is Down = refl
 pub line-is : (row : Row) → numbers-text (row-numbers row) ≡ line-text row
 unfolding numbers-text row-numbers line-text
 line-is (Row.Shift c) = rw (letter-is (c .side))
-line-is (Row.RefusedEvent why) = refl
+line-is (Row.RefusedEvent why place) = refl
 line-is (Row.RefusedTable why line) = refl
 line-is (Row.Closed c) = refl
 
