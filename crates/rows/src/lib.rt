@@ -6,11 +6,14 @@ ghost use Prim.Native.Nat.{_+_, _*_, _≤_};
 ghost use lib.IntN.{pos};
 ghost use lib.ListN.{length, take};
 ghost use Rattle.method.specs.words.Ranges.{most-shifts};
-ghost use Rattle.method.specs.told.Refusals.{table-number, event-number};
+ghost use Rattle.method.specs.declared.Row.the-variants as RowOf;
+ghost use Rattle.method.specs.told.Refusals.{table-number, field-place, field-number, event-number};
 ghost use Rattle.method.specs.told.Rows.{row-numbers, numbers-of, side-number};
 ghost use Rattle.rows.specs.Buffer.{written, needed};
 ghost use Rattle.rows.specs.Fits.{largest-number, Fits};
+use method::Closing;
 use method::EventReason;
+use method::Field;
 use method::Row;
 use method::ShiftLine;
 use method::Side;
@@ -53,6 +56,8 @@ pub fn event_number(why: EventReason) -> i64
         EventReason::Malformed => 12,
         EventReason::UnknownId => 13,
         EventReason::Crossed => 14,
+        EventReason::AbsentNotZero => 15,
+        EventReason::PriceOutOfRange => 16,
     }
 }
 
@@ -64,12 +69,81 @@ pub fn table_number(why: TableReason) -> i64
         TableReason::Edition => 2,
         TableReason::Header => 3,
         TableReason::Key => 4,
-        TableReason::Field => 5,
+        TableReason::Field(_) => 5,
         TableReason::Id => 6,
         TableReason::Exponent => 7,
         TableReason::HalfMove => 8,
         TableReason::Corridor => 9,
     }
+}
+
+// The place of a field in the contract's line.
+fn field_place(f: Field) -> i64
+    ensures { λ r. ⌜ r ≡ pos (field-place f) ⌝ }
+{
+    match f {
+        Field::Price => 1,
+        Field::Spot => 2,
+        Field::Least => 3,
+        Field::Rate1 => 4,
+        Field::Rate2 => 5,
+        Field::Rate3 => 6,
+        Field::Width => 7,
+        Field::Days => 8,
+        Field::Flags => 10,
+    }
+}
+
+// That of the field at fault, and 0 where no field is named.
+pub fn field_number(why: TableReason) -> i64
+    ensures { λ r. ⌜ r ≡ pos (field-number why) ⌝ }
+{
+    match why {
+        TableReason::Length => 0,
+        TableReason::Edition => 0,
+        TableReason::Header => 0,
+        TableReason::Key => 0,
+        TableReason::Field(f) => field_place(f),
+        TableReason::Id => 0,
+        TableReason::Exponent => 0,
+        TableReason::HalfMove => 0,
+        TableReason::Corridor => 0,
+    }
+}
+
+// ---- the rows, by their kinds
+
+fn shift(c: ShiftLine) -> [i64; 6]
+    ensures { λ r. ⌜ r ≡ row-numbers (RowOf.Shift c) ⌝ }
+{
+    let side = c.side;
+    [1, wide(c.second.0), side_number(side), wide(c.id), 0, 0]
+}
+
+fn refused_event(why: EventReason, place: usize) -> [i64; 6]
+    requires { ⌜ place ≤ largest-number ⌝ }
+    ensures { λ r. ⌜ r ≡ row-numbers (RowOf.RefusedEvent why place) ⌝ }
+{
+    [2, event_number(why), wide_place(place), 0, 0, 0]
+}
+
+fn refused_table(why: TableReason, line: u32) -> [i64; 6]
+    ensures { λ r. ⌜ r ≡ row-numbers (RowOf.RefusedTable why line) ⌝ }
+{
+    [3, table_number(why), wide(line), field_number(why), 0, 0]
+}
+
+fn closed(c: Closing) -> [i64; 6]
+    ensures { λ r. ⌜ r ≡ row-numbers (RowOf.Closed c) ⌝ }
+{
+    [
+        4,
+        wide(c.id),
+        c.lower.0,
+        c.upper.0,
+        c.lowerbound.0,
+        c.upperbound.0,
+    ]
 }
 
 // A row in six numbers: its kind, and its values in the printed order, with 0 in the places that it leaves free.
@@ -78,20 +152,10 @@ pub fn row_numbers(row: Row) -> [i64; 6]
     ensures { λ r. ⌜ r ≡ row-numbers row ⌝ }
 {
     match row {
-        Row::Shift(c) => {
-            let side = c.side;
-            [1, wide(c.second.0), side_number(side), wide(c.id), 0, 0]
-        }
-        Row::RefusedEvent(why, place) => [2, event_number(why), wide_place(place), 0, 0, 0],
-        Row::RefusedTable(why, line) => [3, table_number(why), wide(line), 0, 0, 0],
-        Row::Closed(c) => [
-            4,
-            wide(c.id),
-            c.lower.0,
-            c.upper.0,
-            c.lowerbound.0,
-            c.upperbound.0,
-        ],
+        Row::Shift(c) => shift(c),
+        Row::RefusedEvent(why, place) => refused_event(why, place),
+        Row::RefusedTable(why, line) => refused_table(why, line),
+        Row::Closed(c) => closed(c),
     }
 }
 

@@ -20,6 +20,12 @@ enum-told-4 c = search needs
 enum-told-5 : tie.Need-enum-told-5
 enum-told-5 c = search needs
 
+enum-told-6 : tie.Need-enum-told-6
+enum-told-6 c = search needs
+
+enum-told-7 : tie.Need-enum-told-7
+enum-told-7 c = search needs
+
 returns : tie.Need-returns
 unfolding event-number
 returns c = rw (c .enum-told .given .1) refl
@@ -40,6 +46,14 @@ returns-5 : tie.Need-returns-5
 unfolding event-number
 returns-5 c = rw (c .enum-told5 .given .1) refl
 
+returns-6 : tie.Need-returns-6
+unfolding event-number
+returns-6 c = rw (c .enum-told6 .given .1) refl
+
+returns-7 : tie.Need-returns-7
+unfolding event-number
+returns-7 c = rw (c .enum-told7 .given .1) refl
+
 pub event-number-spec : {M : Type 1} → statement M
 event-number-spec =
     tie.close
@@ -49,8 +63,12 @@ event-number-spec =
     enum-told-3
     enum-told-4
     enum-told-5
+    enum-told-6
+    enum-told-7
     returns
     returns-2
     returns-3
     returns-4
-    returns-5)
+    returns-5
+    returns-6
+    returns-7)
