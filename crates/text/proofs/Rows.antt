@@ -4,6 +4,7 @@ use mathlib.Core.List.{List, [], _∷_, _++_, append-assoc, append-nil}
 use Prim.Native.Nat.{ℕ, zero, suc, _+_, _*_, _/_, _<_, _≤_}
 use native.Mathlib.Numerals.{add-one}
 use native.Mathlib.Omega.{arith}
+use borrow.Author.Tests.{ne-eqb}
 use lib.IntN.{ℤ, pos}
 use lib.ListN.{length, getD, take, drop}
 use lib.Seq.{drop-cons, take-at, drop-at, drop-drop}
@@ -11,20 +12,27 @@ use Rattle.method.specs.declared.Side.{Side}
 use Rattle.method.specs.declared.Side.the-variants.{Up, Down}
 use Rattle.method.specs.declared.Row.{Row}
 use Rattle.method.specs.declared.Row.the-variants as Row
+use Rattle.method.specs.told.Refusals.{table-number, field-number}
 use Rattle.method.specs.told.Rows.{side-number, row-numbers, numbers-of}
-use Rattle.method.specs.told.Text.{side-letter, line-text, text-of}
+use Rattle.method.specs.told.Text.{ascii, decimal, line-with, side-letter, field-text, line-text, text-of}
 use Rattle.rows.proofs.Buffer.{row-long, numbers-long}
-use Rattle.text.specs.Line.{letter, numbers-text, lines-text, all-text}
+use Rattle.text.specs.Line.{letter, refused-table-text, numbers-text, lines-text, all-text}
 
 letter-is : (side : Side) → letter (pos (side-number side)) ≡ side-letter side
 letter-is Up = refl
 letter-is Down = refl
 
+-- a field stands at the end of the line where it is not 0
+field-is : (number line field : ℕ)
+    → refused-table-text (pos 3 ∷ pos number ∷ pos line ∷ pos field ∷ pos 0 ∷ pos 0 ∷ []) ≡ line-with (ascii "T" ∷ decimal number ∷ decimal line ∷ field-text field)
+field-is number line zero = refl
+field-is number line (suc n) = rw (ne-eqb (suc n) 0 (λ e. omega arith))
+
 pub line-is : (row : Row) → numbers-text (row-numbers row) ≡ line-text row
 unfolding numbers-text row-numbers line-text
 line-is (Row.Shift c) = rw (letter-is (c .side))
 line-is (Row.RefusedEvent why place) = refl
-line-is (Row.RefusedTable why line) = refl
+line-is (Row.RefusedTable why line) = field-is (table-number why) line (field-number why)
 line-is (Row.Closed c) = refl
 
 -- ---- many rows
