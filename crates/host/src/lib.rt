@@ -18,7 +18,7 @@ ghost use Rattle.closing.specs.Closing.{closed, closed-into};
 ghost use Rattle.host_memory.specs.Memory.{session-in};
 ghost use Rattle.host_questions.specs.AskedNumbers.{told-into, place-number, report-into};
 ghost use Rattle.counting.specs.Counted.{number-in};
-ghost use Rattle.host_session.specs.Answers.{line-said, reply-in, shift-rows, Leaves};
+ghost use Rattle.host_session.specs.Answers.{line-said, field-said, reply-in, shift-rows, Leaves};
 ghost use Rattle.host.specs.Checked.{damaged, damaged-count, Tells};
 
 // How many numbers a session takes in memory, for a host that holds its own constant to it.
@@ -35,12 +35,14 @@ pub extern "C" fn sundewcup_open(
     session: &mut [[[u64; 16]; 2]; 33],
     table: &[u8],
     line: &mut i64,
+    field: &mut i64,
 ) -> i64
     ensures { λ r. ⌜ r ≡ pos (table-said (opened-session (opening (now (table .entry))) .answer) .number) ⌝ }
     ensures { λ _. ⌜ now (line .exit) ≡ line-said (opened-session (opening (now (table .entry))) .answer) ⌝ }
+    ensures { λ _. ⌜ now (field .exit) ≡ field-said (opened-session (opening (now (table .entry))) .answer) ⌝ }
     ensures { λ _. ⌜ session-in (now (session .exit)) ≡ opened-session (opening (now (table .entry))) .session ⌝ }
 {
-    host_session::open(session, table, line)
+    host_session::open(session, table, line, field)
 }
 
 // Whether the memory has a session: 0, or the number of a damaged one.

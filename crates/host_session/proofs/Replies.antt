@@ -18,7 +18,7 @@ use Rattle.corridor.specs.View.{view, Valid}
 use Rattle.corridor.specs.Reply.{reply-of}
 use Rattle.corridor.specs.Engine.{reply-to}
 use Rattle.host_session.specs.Names.{TableAnswer, EventAnswer, EventReason, Session}
-use Rattle.host_session.specs.Answers.{line-said}
+use Rattle.host_session.specs.Answers.{line-said, field-said}
 
 few-lines : (s : Session) (e : Event) (a : Answer) → length (joined (a ∷ [])) ≤ 16 → reply-of s e a .made ≤ 16
 unfolding joined reply-of
@@ -51,10 +51,10 @@ unfolding event-said
 event-taken a e = rw e refl
 
 pub table-told : (a : TableAnswer) (why : TableReason) (line : ℕ) (row : List ℤ) → a ≡ TableAnswer.Refused why line → row ≡ row-numbers (Row.RefusedTable why line)
-    → (getD row 1 (pos 0) ≡ pos (table-said a .number)) × (getD row 2 (pos 0) ≡ line-said a)
+    → (getD row 1 (pos 0) ≡ pos (table-said a .number)) × (getD row 2 (pos 0) ≡ line-said a) × (getD row 3 (pos 0) ≡ field-said a)
 unfolding table-said row-numbers
-table-told a why line row e f = rw (e, f) (refl, refl)
+table-told a why line row e f = rw (e, f) (refl, refl, refl)
 
-pub table-opened : (a : TableAnswer) → a ≡ TableAnswer.Opened → (pos 0 ≡ pos (table-said a .number)) × (pos 0 ≡ line-said a)
+pub table-opened : (a : TableAnswer) → a ≡ TableAnswer.Opened → (pos 0 ≡ pos (table-said a .number)) × (pos 0 ≡ line-said a) × (pos 0 ≡ field-said a)
 unfolding table-said
-table-opened a e = rw e (refl, refl)
+table-opened a e = rw e (refl, refl, refl)

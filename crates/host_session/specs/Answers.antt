@@ -4,6 +4,7 @@ use mathlib.Core.List.{List, map}
 use Prim.Native.Nat.{ℕ}
 use lib.IntN.{ℤ, pos}
 use lib.ListN.{take}
+use Rattle.method.specs.told.Refusals.{field-number}
 use Rattle.method.specs.told.Rows.{numbers-of}
 use Rattle.method.specs.declared.Row.the-variants as Row
 use Rattle.corridor.specs.declared.Reply.{Reply}
@@ -16,6 +17,11 @@ use Rattle.host_session.specs.Names.{TableAnswer, Session}
 abbrev pub line-said : TableAnswer → ℤ
 line-said TableAnswer.Opened = pos 0
 line-said (TableAnswer.Refused why line) = pos line
+
+-- the place of the field that it names, 0 where it names none
+abbrev pub field-said : TableAnswer → ℤ
+field-said TableAnswer.Opened = pos 0
+field-said (TableAnswer.Refused why line) = pos (field-number why)
 
 -- ---- an event
 -- the reply to the bytes b by the session that stands in the memory

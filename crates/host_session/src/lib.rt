@@ -9,7 +9,7 @@ ghost use Rattle.method.specs.told.Refusals.{table-said, event-said};
 ghost use Rattle.method.specs.computed.Table.{opening};
 ghost use Rattle.method.specs.computed.Event.{with-book, quoted-line};
 ghost use Rattle.pressure.specs.Asks.{JudgeableLine};
-ghost use Rattle.verdict.specs.Screened.{screened};
+ghost use Rattle.verdict.specs.Decided.{decided};
 ghost use Rattle.rows.specs.Buffer.{written};
 ghost use Rattle.corridor.specs.View.{view, with-line, Valid, opened-session};
 ghost use Rattle.feeding.specs.Quiet.{quiet-until};
@@ -17,7 +17,7 @@ ghost use Rattle.feeding.specs.Feeding.{fed, fed-into};
 ghost use Rattle.closing.specs.Closing.{closed, closed-into};
 ghost use Rattle.counting.specs.Counted.{number-in};
 ghost use Rattle.host_memory.specs.Memory.{session-in};
-ghost use Rattle.host_session.specs.Answers.{line-said, reply-in, shift-rows, Leaves};
+ghost use Rattle.host_session.specs.Answers.{line-said, field-said, reply-in, shift-rows, Leaves};
 use method::Event;
 use method::EventAnswer;
 use method::Quote;
@@ -28,9 +28,15 @@ use verdict::Change;
 use verdict::Verdict;
 
 // Opens a session. After a refused table the memory holds none: what it reads as is then not `Valid`.
-pub fn open(session: &mut [[[u64; 16]; 2]; 33], table: &[u8], line: &mut i64) -> i64
+pub fn open(
+    session: &mut [[[u64; 16]; 2]; 33],
+    table: &[u8],
+    line: &mut i64,
+    field: &mut i64,
+) -> i64
     ensures { λ r. ⌜ r ≡ pos (table-said (opened-session (opening (now (table .entry))) .answer) .number) ⌝ }
     ensures { λ _. ⌜ now (line .exit) ≡ line-said (opened-session (opening (now (table .entry))) .answer) ⌝ }
+    ensures { λ _. ⌜ now (field .exit) ≡ field-said (opened-session (opening (now (table .entry))) .answer) ⌝ }
     ensures { λ _. ⌜ session-in (now (session .exit)) ≡ opened-session (opening (now (table .entry))) .session ⌝ }
 {
     let o = corridor::open(table);
@@ -40,11 +46,13 @@ pub fn open(session: &mut [[[u64; 16]; 2]; 33], table: &[u8], line: &mut i64) ->
     match answer {
         TableAnswer::Opened => {
             *line = 0;
+            *field = 0;
             0
         }
         TableAnswer::Refused(why, at) => {
             let row = rows::row_numbers(Row::RefusedTable(why, at));
             *line = row[2];
+            *field = row[3];
             row[1]
         }
     }
@@ -87,7 +95,7 @@ pub struct Seen {
 
 fn looked(session: &[[[u64; 16]; 2]; 33], e: Event) -> Seen
     requires { ⌜ Valid (session-in (now session)) ⌝ }
-    ensures { λ r. ⌜ r .verdict ≡ screened (session-ids (view (session-in (now (session .entry)))))
+    ensures { λ r. ⌜ r .verdict ≡ decided (session-ids (view (session-in (now (session .entry)))))
         (session-in (now (session .entry)) .end) (session-in (now (session .entry)) .clock) e ⌝ }
     ensures { λ r. ⌜ r .quiet ≡ quiet-until (view (session-in (now (session .entry)))) ⌝ }
 {

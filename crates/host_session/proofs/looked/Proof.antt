@@ -10,7 +10,7 @@ use Rattle.method.specs.words.Types.{session-ids}
 use Rattle.method.specs.words.Ranges.{longest-hold}
 use Rattle.method.specs.computed.Rooms.{HoldsIn}
 use Rattle.method.specs.computed.Sound.{Distinct}
-use Rattle.verdict.specs.Screened.{screened}
+use Rattle.verdict.specs.Decided.{decided}
 use Rattle.corridor.specs.View.{view}
 use Rattle.corridor.proofs.Views.{ranged}
 use Rattle.due.specs.Quiet.{until}
@@ -123,7 +123,7 @@ returns c =
     let a : tie.At-loop Inv-loop μ-loop = c .before .before .before in
     let z = given a in
     let v = start a .pre in (
-      c .screen .ensures ∙ (λ j. screened (named (c .before .before) j) (sym (read a) j .end) (sym (read a) j .clock) (start a .args .e)),
+      c .screen .ensures ∙ (λ j. decided (named (c .before .before) j) (sym (read a) j .end) (sym (read a) j .clock) (start a .args .e)),
       until-end (z .hold) (z .count) (z .lines) (a .loop .i) (a .loop .quiet) (omega (arith, v .few, v .full)) (all (c .before .before)) (a .loop .inv .1),
     )
 

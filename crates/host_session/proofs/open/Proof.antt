@@ -27,6 +27,9 @@ row-numbers-requires c κs = search needs
 array-copy-out-line : tie.Need-array-copy-out-line
 array-copy-out-line c = search needs
 
+array-copy-out-field : tie.Need-array-copy-out-field
+array-copy-out-field c = search needs
+
 array-copy-out-result : tie.Need-array-copy-out-result
 array-copy-out-result c = search needs
 
@@ -34,13 +37,13 @@ returns : tie.Need-returns
 returns c =
     let e = c .before .before .before .before .before .«open» .ensures in
     let told = table-opened (opened-session (opening (now (c .before .before .before .before .before .before .before .args .table))) .answer) (sym (ap (λ (z : OpenReply). z .answer) e) ∙ c .enum-told .given .1) in
-    (told .0, (told .1, c .before .before .kept .ensures ∙ ap (λ (z : OpenReply). z .session) e))
+    (told .0, (told .1, (told .2, c .before .before .kept .ensures ∙ ap (λ (z : OpenReply). z .session) e)))
 
 returns-2 : tie.Need-returns-2
 returns-2 c =
-    let e = c .before .before .before .before .before .before .before .before .before .«open» .ensures in
-    let told = table-told (opened-session (opening (now (c .before .before .before .before .before .before .before .before .before .before .before .args .table))) .answer) _ _ _ (sym (ap (λ (z : OpenReply). z .answer) e) ∙ c .before .before .before .before .answer .given .1) (c .before .before .row-numbers .ensures) in
-    ((search needs) ∙ told .0, ((search needs) ∙ told .1, c .before .before .before .before .before .before .kept .ensures ∙ ap (λ (z : OpenReply). z .session) e))
+    let e = c .before .before .before .before .before .before .before .before .before .before .«open» .ensures in
+    let told = table-told (opened-session (opening (now (c .before .before .before .before .before .before .before .before .before .before .before .before .args .table))) .answer) _ _ _ (sym (ap (λ (z : OpenReply). z .answer) e) ∙ c .before .before .before .before .before .answer .given .1) (c .before .before .before .row-numbers .ensures) in
+    ((search needs) ∙ told .0, ((search needs) ∙ told .1, ((search needs) ∙ told .2, c .before .before .before .before .before .before .before .kept .ensures ∙ ap (λ (z : OpenReply). z .session) e)))
 
 pub open-spec : {M : Type 1} → statement M
 open-spec =
@@ -52,6 +55,7 @@ open-spec =
     enum-known-answer
     row-numbers-requires
     array-copy-out-line
+    array-copy-out-field
     array-copy-out-result
     returns
     returns-2)
