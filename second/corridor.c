@@ -231,20 +231,29 @@ static Contract read_contract(const uint8_t *bytes)
     };
 }
 
-static bool contract_in_range(const Contract *contract)
+/* The place of the first field that is not good, counted from 1; 0 where all are. The id is judged apart. */
+static uint32_t field_at_fault(const Contract *contract)
 {
-    bool permits_negative = (contract->flags & FLAG_PERMITS_NEGATIVE) != 0;
-    /* The three rates are in range together: not falling, the first at least 1, the last at most 10^6. */
-    return within(contract->settlement.steps, permits_negative ? -MOST_TABLE_PRICE : 1, MOST_TABLE_PRICE)
-        && within(contract->spot.steps, -MOST_TABLE_PRICE, MOST_TABLE_PRICE)
-        && within(contract->least_price.steps, 1, MOST_TABLE_PRICE)
-        && contract->rate[0].millionths >= 1
-        && contract->rate[0].millionths <= contract->rate[1].millionths
-        && contract->rate[1].millionths <= contract->rate[2].millionths
-        && contract->rate[2].millionths <= MILLION
-        && within(contract->width_share.millionths, 0, MILLION)
-        && within(contract->days_left.days, 0, MOST_DAYS)
-        && (contract->flags & ~(uint32_t)FLAGS_OF_CONTRACT) == 0;
+    int64_t least_settlement = (contract->flags & FLAG_PERMITS_NEGATIVE) != 0 ? -MOST_TABLE_PRICE : 1;
+    /* A rate is held to the one before it and not to 1: where that one is under 1, it is the first at fault. */
+    const bool good[CONTRACT_FIELDS] = {
+        [CONTRACT_SETTLEMENT] = within(contract->settlement.steps, least_settlement, MOST_TABLE_PRICE),
+        [CONTRACT_SPOT] = within(contract->spot.steps, -MOST_TABLE_PRICE, MOST_TABLE_PRICE),
+        [CONTRACT_LEAST_PRICE] = within(contract->least_price.steps, 1, MOST_TABLE_PRICE),
+        [CONTRACT_RATE_1] = within(contract->rate[0].millionths, 1, MILLION),
+        [CONTRACT_RATE_2] = within(contract->rate[1].millionths, contract->rate[0].millionths, MILLION),
+        [CONTRACT_RATE_3] = within(contract->rate[2].millionths, contract->rate[1].millionths, MILLION),
+        [CONTRACT_WIDTH_SHARE] = within(contract->width_share.millionths, 0, MILLION),
+        [CONTRACT_DAYS_LEFT] = within(contract->days_left.days, 0, MOST_DAYS),
+        [CONTRACT_ID] = true,
+        [CONTRACT_FLAGS] = (contract->flags & ~(uint32_t)FLAGS_OF_CONTRACT) == 0,
+    };
+    for (uint32_t i = 0; i < CONTRACT_FIELDS; i++) {
+        if (!good[i]) {
+            return i + 1;
+        }
+    }
+    return 0;
 }
 
 /* Sets the limits; says whether both stay within the interest bounds. The floor comes only after that. */
@@ -288,12 +297,9 @@ static Refusal open_line(Line *line, const Contract *contract, const Keys *keys,
     return set_opening_limits(line, contract->width_share) ? NOT_REFUSED : REFUSED_LIMITS;
 }
 
-/* Checks a contract with 5 to 9 and puts it on the session's next line. */
+/* Checks a contract of good fields with 6 to 9 and puts it on the session's next line. */
 static Refusal add_line(Session *session, const Contract *contract, const Keys *keys, Millionths shift_share)
 {
-    if (!contract_in_range(contract)) {
-        return REFUSED_CONTRACT;
-    }
     if (contract->id == 0 || line_number(session, contract->id) != 0) {
         return REFUSED_ID;
     }
@@ -327,7 +333,12 @@ static void start_session(Session *session, const uint8_t *header)
 
 static TableAnswer table_refused(Refusal reason, uint32_t line)
 {
-    return (TableAnswer){REFUSED, reason, line};
+    return (TableAnswer){.kind = REFUSED, .reason = reason, .line = line};
+}
+
+static TableAnswer contract_refused(uint32_t line, uint32_t bad_field)
+{
+    return (TableAnswer){.kind = REFUSED, .reason = REFUSED_CONTRACT, .line = line, .field = bad_field};
 }
 
 TableAnswer corridor_open(const uint8_t *table, size_t length, Session *session)
@@ -355,6 +366,10 @@ TableAnswer corridor_open(const uint8_t *table, size_t length, Session *session)
     Millionths shift_share = {field(table, HEADER_SHIFT_SHARE)};
     for (uint32_t line = 1; line <= field(table, HEADER_CONTRACT_COUNT); line++) {
         Contract contract = read_contract(contracts + (size_t)(line - 1) * CONTRACT_BYTES);
+        uint32_t bad_field = field_at_fault(&contract);
+        if (bad_field != 0) {
+            return contract_refused(line, bad_field);
+        }
         Refusal reason = add_line(session, &contract, &keys, shift_share);
         if (reason != NOT_REFUSED) {
             return table_refused(reason, line);
@@ -494,19 +509,26 @@ static Event read_event(const uint8_t *bytes)
     };
 }
 
-static bool price_well_formed(Steps price, bool present)
+static bool price_in_range(Steps price)
 {
-    return present ? within(price.steps, -MOST_QUOTE_PRICE, MOST_QUOTE_PRICE) : price.steps == 0;
+    return within(price.steps, -MOST_QUOTE_PRICE, MOST_QUOTE_PRICE);
 }
 
-static bool event_well_formed(const Event *event)
+/* What 12, 15 and 16 refuse. A price that is absent is 0 where 16 is come to, and so in range. */
+static Refusal check_form(const Event *event)
 {
     if (event->flags == FLAG_TICK) {
-        return event->id == 0 && event->bid.steps == 0 && event->ask.steps == 0;
+        return event->id == 0 && event->bid.steps == 0 && event->ask.steps == 0 ? NOT_REFUSED : REFUSED_EVENT_FORM;
     }
-    return (event->flags & ~(uint32_t)FLAGS_OF_QUOTE) == 0
-        && price_well_formed(event->bid, (event->flags & FLAG_BID) != 0)
-        && price_well_formed(event->ask, (event->flags & FLAG_ASK) != 0);
+    if ((event->flags & ~(uint32_t)FLAGS_OF_QUOTE) != 0) {
+        return REFUSED_EVENT_FORM;
+    }
+    bool has_bid = (event->flags & FLAG_BID) != 0;
+    bool has_ask = (event->flags & FLAG_ASK) != 0;
+    if ((!has_bid && event->bid.steps != 0) || (!has_ask && event->ask.steps != 0)) {
+        return REFUSED_ABSENT_PRICE;
+    }
+    return price_in_range(event->bid) && price_in_range(event->ask) ? NOT_REFUSED : REFUSED_PRICE_RANGE;
 }
 
 static Refusal check_time(const Session *session, Seconds time)
@@ -544,7 +566,7 @@ static void refuse_event(EventAnswer *answer, Refusal reason)
     answer->reason = reason;
 }
 
-/* The refusals come in the order of METHOD 20, 12, 10, 11, 13, 14, and all before the session is touched. */
+/* The refusals come in the order of METHOD 20, 12, 15, 16, 10, 11, 13, 14, and all before the session is touched. */
 void corridor_event(Session *session, const uint8_t *bytes, size_t length, EventAnswer *answer)
 {
     if (length != EVENT_BYTES) {
@@ -554,7 +576,10 @@ void corridor_event(Session *session, const uint8_t *bytes, size_t length, Event
     Event event = read_event(bytes);
     bool tick = event.flags == FLAG_TICK;
     uint32_t line = 0;
-    Refusal reason = event_well_formed(&event) ? check_time(session, event.time) : REFUSED_EVENT_FORM;
+    Refusal reason = check_form(&event);
+    if (reason == NOT_REFUSED) {
+        reason = check_time(session, event.time);
+    }
     if (reason == NOT_REFUSED && !tick) {
         line = line_number(session, event.id);
         reason = check_quote(&event, line);

@@ -51,7 +51,9 @@ typedef enum {
     REFUSED_BEFORE_CLOCK = 11,
     REFUSED_EVENT_FORM = 12,
     REFUSED_UNKNOWN_ID = 13,
-    REFUSED_CROSSED = 14
+    REFUSED_CROSSED = 14,
+    REFUSED_ABSENT_PRICE = 15,
+    REFUSED_PRICE_RANGE = 16
 } Refusal;
 
 typedef enum { ACCEPTED, REFUSED } AnswerKind;
@@ -99,11 +101,13 @@ typedef struct {
     Line lines[MOST_LINES];
 } Session;
 
-/* reason and line are set only where the kind is REFUSED. */
+/* reason and line are set only where the kind is REFUSED. field is the place of the field at fault in its line, counted
+   from 1, where the reason is REFUSED_CONTRACT, and 0 with every other one. */
 typedef struct {
     AnswerKind kind;
     Refusal reason;
     uint32_t line;
+    uint32_t field;
 } TableAnswer;
 
 typedef struct {

@@ -124,6 +124,14 @@ static void check_table_refused(const char *name, const TableDraft *draft, Refus
     check_text(name, table_text(draft).text, expected);
 }
 
+/* Refused with 5, at a line's field. */
+static void check_field_refused(const char *name, const TableDraft *draft, uint32_t line, uint32_t field)
+{
+    char expected[32];
+    snprintf(expected, sizeof expected, "T 5 %" PRIu32 " %" PRIu32 "\n", line, field);
+    check_text(name, table_text(draft).text, expected);
+}
+
 static void check_table_opens(const char *name, const TableDraft *draft)
 {
     check_shown(name, table_text(draft).text[0] == 'T', false);
@@ -459,12 +467,12 @@ static void figures_of_refused_events(void)
     check_event_refused("tick with an id", &course, (EventDraft){{100, 7, 4, 0, 0}}, REFUSED_EVENT_FORM);
     check_event_refused("tick with a bid", &course, (EventDraft){{100, 0, 4, 1, 0}}, REFUSED_EVENT_FORM);
     check_event_refused("tick with an ask", &course, (EventDraft){{100, 0, 4, 0, 1}}, REFUSED_EVENT_FORM);
-    check_event_refused("absent bid not 0", &course, (EventDraft){{100, 7, 2, 1, 1000}}, REFUSED_EVENT_FORM);
-    check_event_refused("absent ask not 0", &course, (EventDraft){{100, 7, 0, 0, 1}}, REFUSED_EVENT_FORM);
-    check_event_refused("bid too high", &course, draft_bid(100, 7, 2000000001), REFUSED_EVENT_FORM);
-    check_event_refused("bid too low", &course, draft_bid(100, 7, -2000000001), REFUSED_EVENT_FORM);
-    check_event_refused("ask too high", &course, draft_ask(100, 7, 2000000001), REFUSED_EVENT_FORM);
-    check_event_refused("ask too low", &course, draft_ask(100, 7, -2000000001), REFUSED_EVENT_FORM);
+    check_event_refused("absent bid not 0", &course, (EventDraft){{100, 7, 2, 1, 1000}}, REFUSED_ABSENT_PRICE);
+    check_event_refused("absent ask not 0", &course, (EventDraft){{100, 7, 0, 0, 1}}, REFUSED_ABSENT_PRICE);
+    check_event_refused("bid too high", &course, draft_bid(100, 7, 2000000001), REFUSED_PRICE_RANGE);
+    check_event_refused("bid too low", &course, draft_bid(100, 7, -2000000001), REFUSED_PRICE_RANGE);
+    check_event_refused("ask too high", &course, draft_ask(100, 7, 2000000001), REFUSED_PRICE_RANGE);
+    check_event_refused("ask too low", &course, draft_ask(100, 7, -2000000001), REFUSED_PRICE_RANGE);
     check_events("widest quote", &course, "", EVENTS(draft_quote(11, 7, -2000000000, 2000000000)));
 
     uint8_t bytes[EVENT_BYTES + 1] = {12};
@@ -533,30 +541,36 @@ static void figures_of_keys(void)
     check_table_refused("keys come before contracts", &draft, REFUSED_KEY, 1);
 }
 
+/* Contract 8 of the sample of two: limits of its ranges, and the field at fault beyond them. */
 static void figures_of_contracts(void)
 {
-    static const struct { uint32_t field; uint32_t good; uint32_t bad; } edges[] = {
-        {CONTRACT_SETTLEMENT, 1, 0}, {CONTRACT_SETTLEMENT, 2, (uint32_t)-1},
-        {CONTRACT_SETTLEMENT, 100000000, 100000001},
-        {CONTRACT_SPOT, 100000000, 100000001}, {CONTRACT_SPOT, (uint32_t)-100000000, (uint32_t)-100000001},
-        {CONTRACT_LEAST_PRICE, 1, 0}, {CONTRACT_LEAST_PRICE, 100000000, 100000001}, {CONTRACT_RATE_1, 200000, 200001},
-        {CONTRACT_RATE_1, 100000, 0}, {CONTRACT_RATE_2, 100000, 99999}, {CONTRACT_RATE_2, 300000, 300001},
-        {CONTRACT_RATE_3, 1000000, 1000001}, {CONTRACT_WIDTH_SHARE, 0, 1000001}, {CONTRACT_DAYS_LEFT, 3650, 3651},
-        {CONTRACT_DAYS_LEFT, 0, UINT32_MAX}, {CONTRACT_FLAGS, 3, 4}, {CONTRACT_FLAGS, 0, 0x80000002},
+    static const struct { uint32_t field; uint32_t good; uint32_t bad; uint32_t at_fault; } edges[] = {
+        {CONTRACT_SETTLEMENT, 1, 0, 1}, {CONTRACT_SETTLEMENT, 2, (uint32_t)-1, 1},
+        {CONTRACT_SETTLEMENT, 100000000, 100000001, 1}, {CONTRACT_SETTLEMENT, 99999999, INT32_MAX, 1},
+        {CONTRACT_SPOT, 100000000, 100000001, 2}, {CONTRACT_SPOT, (uint32_t)-100000000, (uint32_t)-100000001, 2},
+        {CONTRACT_SPOT, 99999999, UINT32_C(0x80000000), 2}, {CONTRACT_LEAST_PRICE, 1, 0, 3},
+        {CONTRACT_LEAST_PRICE, 100000000, 100000001, 3}, {CONTRACT_LEAST_PRICE, 2, UINT32_MAX, 3},
+        {CONTRACT_RATE_1, 100000, 0, 4}, {CONTRACT_RATE_1, 200000, 200001, 5}, {CONTRACT_RATE_1, 20000, UINT32_MAX, 4},
+        {CONTRACT_RATE_2, 100000, 99999, 5}, {CONTRACT_RATE_2, 300000, 300001, 6}, {CONTRACT_RATE_2, 100001, 0, 5},
+        {CONTRACT_RATE_2, 250000, 1000001, 5}, {CONTRACT_RATE_2, 200001, UINT32_MAX, 5},
+        {CONTRACT_RATE_3, 200000, 199999, 6}, {CONTRACT_RATE_3, 1000000, 1000001, 6}, {CONTRACT_RATE_3, 200001, 0, 6},
+        {CONTRACT_RATE_3, 999999, UINT32_MAX, 6}, {CONTRACT_WIDTH_SHARE, 1000000, 1000001, 7},
+        {CONTRACT_WIDTH_SHARE, 0, UINT32_MAX, 7}, {CONTRACT_DAYS_LEFT, 3650, 3651, 8},
+        {CONTRACT_DAYS_LEFT, 0, UINT32_MAX, 8}, {CONTRACT_FLAGS, 3, 4, 10}, {CONTRACT_FLAGS, 0, 0x80000002, 10},
     };
     for (size_t i = 0; i < sizeof edges / sizeof edges[0]; i++) {
         TableDraft draft = sample_of_two();
         draft.contracts[1][edges[i].field] = edges[i].good;
         check_table_opens("contract edge", &draft);
         draft.contracts[1][edges[i].field] = edges[i].bad;
-        check_table_refused("contract edge", &draft, REFUSED_CONTRACT, 2);
+        check_field_refused("contract edge", &draft, 2, edges[i].at_fault);
     }
     TableDraft draft = sample_of_two();
     draft.contracts[0][CONTRACT_SETTLEMENT] = (uint32_t)-100000000;
     draft.contracts[0][CONTRACT_FLAGS] = 3;
     check_table_opens("lowest settlement", &draft);
     draft.contracts[0][CONTRACT_SETTLEMENT] = (uint32_t)-100000001;
-    check_table_refused("below the lowest settlement", &draft, REFUSED_CONTRACT, 1);
+    check_field_refused("below the lowest settlement", &draft, 1, 1);
 }
 
 static void figures_of_ids(void)
@@ -584,7 +598,7 @@ static void figures_of_ids(void)
     draft.contracts[0][CONTRACT_ID] = 0;
     check_table_refused("6 before 7", &draft, REFUSED_ID, 1);
     draft.contracts[0][CONTRACT_LEAST_PRICE] = 0;
-    check_table_refused("5 before 6", &draft, REFUSED_CONTRACT, 1);
+    check_field_refused("5 before 6", &draft, 1, 3);
 }
 
 /* Many ids that crowd together must all be found, each on its own line, and no id beside them. */
@@ -695,8 +709,8 @@ static void readings_of_order(void)
     draft = sample();
     check_session("A5 unknown id before the clock", &draft, "R 11\n", EVENTS(draft_tick(5), draft_empty(4, 9)));
     check_session("A5 wrong flags after the end", &draft, "R 12\n", EVENTS({{1001, 7, 8, 0, 0}}));
-    check_session("A5 bid out of range, absent ask", &draft, "R 12\n", EVENTS({{1, 7, 1, 2100000000, 7}}));
-    check_session("A5 bid out of range", &draft, "R 12\n", EVENTS({{1, 7, 1, 2100000000, 0}}));
+    check_session("A5 bid out of range, absent ask", &draft, "R 15\n", EVENTS({{1, 7, 1, 2100000000, 7}}));
+    check_session("A5 bid out of range", &draft, "R 16\n", EVENTS({{1, 7, 1, 2100000000, 0}}));
     check_session("A5 flags 5, 6, 7, 8, all", &draft, "R 12\nR 12\nR 12\nR 12\nR 12\n",
                   EVENTS({{1, 0, 5, 0, 0}}, {{1, 0, 6, 0, 0}}, {{1, 0, 7, 0, 0}}, {{1, 7, 8, 0, 0}},
                          {{1, 7, UINT32_MAX, 0, 0}}));
@@ -723,7 +737,7 @@ static void readings_of_program(void)
     check_program("A12 wrong offset", &draft, 0, "T 1 0\n", EVENTS(draft_tick(1)));
     draft = sample();
     draft.contracts[0][CONTRACT_FLAGS] = 4;
-    check_program("refused table, nothing more", &draft, 0, "T 5 1\n", EVENTS(draft_tick(1), draft_tick(0)));
+    check_program("refused table, nothing more", &draft, 0, "T 5 1 10\n", EVENTS(draft_tick(1), draft_tick(0)));
     uint8_t header[HEADER_BYTES];
     memcpy(header, SAMPLE_TABLE, sizeof header);
     header[7] = 0x80;
@@ -770,10 +784,10 @@ static void figures_of_rows(void)
     for (size_t i = 0; i < sizeof events / sizeof events[0]; i++) {
         length += draft_write_event(&events[i], bytes + length);
     }
-    const int64_t rows[] = {1, 70, 0, 7, 0, 0, 1, 160, 1, 7, 0, 0, 2, 12, 0, 0, 0, 0, 4, 7, 900, 1100, 850, 1150};
+    const int64_t rows[] = {1, 70, 0, 7, 0, 0, 1, 160, 1, 7, 0, 0, 2, 12, 5, 0, 0, 0, 4, 7, 900, 1100, 850, 1150};
     check_rows("rows of every kind but one", bytes, length + 1, rows, sizeof rows / sizeof rows[0]);
     bytes[sizeof SAMPLE_TABLE - 4] = 4;
-    check_rows("row of a refused table", bytes, length, (const int64_t[]){3, 5, 1, 0, 0, 0}, ROW_NUMBERS);
+    check_rows("row of a refused table", bytes, length, (const int64_t[]){3, 5, 1, 10, 0, 0}, ROW_NUMBERS);
 }
 
 static void readings_of_questions(void)

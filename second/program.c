@@ -22,6 +22,15 @@ static size_t read_table(FILE *input, uint8_t *table)
     return length;
 }
 
+static void print_table_refused(FILE *output, const TableAnswer *answer)
+{
+    fprintf(output, "T %d %" PRIu32, (int)answer->reason, answer->line);
+    if (answer->reason == REFUSED_CONTRACT) {
+        fprintf(output, " %" PRIu32, answer->field);
+    }
+    fputc('\n', output);
+}
+
 static void print_event_answer(FILE *output, const EventAnswer *answer)
 {
     if (answer->kind == REFUSED) {
@@ -69,7 +78,7 @@ bool program_run(FILE *input, FILE *output)
     }
     TableAnswer answer = corridor_open(table, length, &session);
     if (answer.kind == REFUSED) {
-        fprintf(output, "T %d %" PRIu32 "\n", (int)answer.reason, answer.line);
+        print_table_refused(output, &answer);
     } else {
         take_events(input, output, &session);
         if (ferror(input)) {

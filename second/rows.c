@@ -17,10 +17,11 @@ static int64_t *put_row(int64_t *out, enum RowKind kind, int64_t a, int64_t b, i
     return out + ROW_NUMBERS;
 }
 
-static int64_t *put_event_answer(int64_t *out, const EventAnswer *answer)
+/* The event's place is counted from 1, accepted ones too. */
+static int64_t *put_event_answer(int64_t *out, const EventAnswer *answer, int64_t place)
 {
     if (answer->kind == REFUSED) {
-        return put_row(out, ROW_REFUSED_EVENT, answer->reason, 0, 0, 0, 0);
+        return put_row(out, ROW_REFUSED_EVENT, answer->reason, place, 0, 0, 0);
     }
     for (uint32_t i = 0; i < answer->shift_count; i++) {
         const Shift *shift = &answer->shifts[i];
@@ -48,13 +49,13 @@ size_t rows_run(const Input *input, int64_t *out, size_t out_length)
     Session session;
     TableAnswer opened = corridor_open(input->table, input->table_length, &session);
     if (opened.kind == REFUSED) {
-        return (size_t)(put_row(out, ROW_REFUSED_TABLE, opened.reason, opened.line, 0, 0, 0) - out);
+        return (size_t)(put_row(out, ROW_REFUSED_TABLE, opened.reason, opened.line, opened.field, 0, 0) - out);
     }
     int64_t *next = out;
     for (size_t start = 0; start < input->events_length; start += EVENT_BYTES) {
         EventAnswer answer;
         corridor_event(&session, input->events + start, input_event_length(input->events_length - start), &answer);
-        next = put_event_answer(next, &answer);
+        next = put_event_answer(next, &answer, (int64_t)(start / EVENT_BYTES) + 1);
     }
     return (size_t)(put_closing_rows(next, &session) - out);
 }

@@ -3,8 +3,8 @@
  * proved engine's library gives them:
  *
  *   1 second side id 0 0                     a shift; side 0 is up, 1 is down
- *   2 number 0 0 0 0                         a refused event
- *   3 number line 0 0 0                      a refused table, the only row then
+ *   2 number event 0 0 0                     a refused event, and which one of the input's it was, counted from 1
+ *   3 number line field 0 0                  a refused table, the only row then; field is 0 unless the number is 5
  *   4 id lower upper lowerbound upperbound   a closing row, one a contract, in table order
  */
 #ifndef ROWS_H

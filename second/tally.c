@@ -18,6 +18,7 @@ static const int64_t WIDE_STEPS = 1000;
 static const char *const NAMES[TALLY_COUNTS] = {
     NULL, "refusal 1", "refusal 2", "refusal 3", "refusal 4", "refusal 5", "refusal 6", "refusal 7", "refusal 8",
     "refusal 9", "refusal 10", "refusal 11", "refusal 12", "refusal 13", "refusal 14",
+    "refusal 15", "refusal 16",
     [TALLY_OPENED] = "opened",
     [TALLY_NO_SHIFTS_ALLOWED] = "opened with no shifts allowed",
     [TALLY_EVENTS] = "events",

@@ -10,7 +10,7 @@
 /* What is counted. The refusals stand first, at their own numbers. */
 typedef enum {
     TALLY_FIRST = REFUSED_LENGTH_OR_OFFSETS,
-    TALLY_OPENED = REFUSED_CROSSED + 1,
+    TALLY_OPENED = REFUSED_PRICE_RANGE + 1,
     TALLY_NO_SHIFTS_ALLOWED,
     TALLY_EVENTS,
     TALLY_SHIFTS_UP,

@@ -40,6 +40,14 @@ bool text_of_program(const uint8_t *input, size_t length, char *text, size_t roo
     return to != NULL && end_text(to, text) && good;
 }
 
+static bool print_refused_table(FILE *output, const int64_t *row)
+{
+    if (row[1] == REFUSED_CONTRACT) {
+        return fprintf(output, "T %" PRId64 " %" PRId64 " %" PRId64 "\n", row[1], row[2], row[3]) > 0;
+    }
+    return fprintf(output, "T %" PRId64 " %" PRId64 "\n", row[1], row[2]) > 0;
+}
+
 static bool print_row(FILE *output, const int64_t *row)
 {
     switch (row[0]) {
@@ -48,7 +56,7 @@ static bool print_row(FILE *output, const int64_t *row)
     case ROW_REFUSED_EVENT:
         return fprintf(output, "R %" PRId64 "\n", row[1]) > 0;
     case ROW_REFUSED_TABLE:
-        return fprintf(output, "T %" PRId64 " %" PRId64 "\n", row[1], row[2]) > 0;
+        return print_refused_table(output, row);
     case ROW_CLOSING:
         return fprintf(output, "%" PRId64 " %" PRId64 " %" PRId64 " %" PRId64 " %" PRId64 "\n", row[1], row[2], row[3],
                        row[4], row[5]) > 0;
