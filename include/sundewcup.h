@@ -5,9 +5,12 @@
  *
  *   1  second  side  id     0            0            a shift: the second at which its hold fell due, its side
  *                                                     (0 up, 1 down), and the contract that called for it
- *   2  number  0     0      0            0            an event that was refused, with its number, 10 to 14
- *   3  number  line  0      0            0            the table was refused, with its number, 1 to 9, and the line
- *                                                     of the table (0: the header); no other row then
+ *   2  number  event 0      0            0            an event that was refused, with its number, 10 to 16, and which
+ *                                                     one of `events` it was, counted from 1, accepted ones too
+ *   3  number  line  field  0            0            the table was refused, with its number, 1 to 9, the line of the
+ *                                                     table (0: the header), and where the number is 5 the place in
+ *                                                     that line of the field at fault, 1 to 10 without 9, else 0; no
+ *                                                     other row then
  *   4  id      lower upper  lower bound  upper bound  what stands at the end, a row for each contract in the table's
  *                                                     order: its limits, and its interest bounds, in steps
  *

@@ -19,12 +19,23 @@
  *    2  the table's edition is not known                     9  a contract's limits lie beyond its interest bounds
  *    3  a field of the table's header is out of range       10  the event is after session end
  *    4  a growth key is out of range or out of order        11  the event is before the clock, the time of the last event
- *    5  a field of a contract is out of range               12  the bytes are no event
+ *    5  a field of a contract is out of range               12  the bytes are no event, by length, flags or a tick's fields
  *    6  a contract's id is 0 or used on an earlier line     13  no contract has this id
  *    7  a contract's exponent is beyond its cap             14  the quote's bid is above its ask
+ *                                                           15  an absent price is not 0
+ *                                                           16  a price is out of range
  *                                                           99  the memory holds no sound session
  *
- * A refused event, 10 to 14, changes nothing: `sundewcup_event` leaves every number of the session as it was, and after
+ * With 5 comes the place of the field at fault in the contract's line, of several the lowest:
+ *
+ *    1  settlement price, also below 1 without flag bit 0    7  width share
+ *    2  spot                                                 8  days left
+ *    3  least price                                         10  flags
+ *    4 to 6  rates of levels 1 to 3, also a rate below the one before it
+ *
+ * 9 is the id, which has refusal 6. An event's refusals are looked for in the order 12, 15, 16, 10, 11, 13, 14.
+ *
+ * A refused event, 10 to 16, changes nothing: `sundewcup_event` leaves every number of the session as it was, and after
  * `sundewcup_feed` it is the same session, in numbers of the library's own. Prices are in whole minimum steps,
  * times in seconds from session start. A question is answered as of the clock: whoever asks in second t sends a tick at t
  * first, since a hold may have fallen due meanwhile.
@@ -68,13 +79,15 @@ enum { SUNDEWCUP_BELOW = -1, SUNDEWCUP_INSIDE = 0, SUNDEWCUP_ABOVE = 1 };
 /*
  * Opens a session from the bytes of a morning table, of any length and sound or not. The result is 0, or the number of the
  * refusal, 1 to 9; *line is then the line of the table at fault, counted from 1, or 0 for the header, and 0 where nothing is
- * refused. After a refusal the memory holds no session, whatever it held before: every function that tests it answers 99,
- * or SUNDEWCUP_DAMAGED_COUNT, until a table is opened there, and the two that do not test must not be handed it.
+ * refused. *field is the place in that line of the field at fault where the number is 5, 1 to 10 and never 9, and 0 otherwise.
+ * After a refusal the memory holds no session, whatever it held before: every function that tests it answers 99, or
+ * SUNDEWCUP_DAMAGED_COUNT, until a table is opened there, and the two that do not test must not be handed it.
  */
-int64_t sundewcup_open(sundewcup_session *session, const uint8_t *table, size_t table_length, int64_t *line);
+int64_t sundewcup_open(sundewcup_session *session, const uint8_t *table, size_t table_length, int64_t *line,
+                       int64_t *field);
 
 /*
- * One event: 20 bytes (any other bytes are refused with 12). The result is 0, or the number of the refusal, 10 to 14 or 99.
+ * One event: 20 bytes (any other bytes are refused with 12). The result is 0, or the number of the refusal, 10 to 16 or 99.
  * *made is how many shifts it made, 0 to 16; each is a row of six numbers in `shifts`, in the order in which they were made:
  *
  *   1  second  side  id  0  0      the second at which its hold fell due, its side (0 up, 1 down), the contract that called
@@ -95,7 +108,8 @@ int64_t sundewcup_event_unchecked(sundewcup_session *session, const uint8_t *eve
  * A buffer of events, 20 bytes each (a last one that is cut short is refused with 12), as if each were handed to
  * `sundewcup_event` in turn, but faster. The answers are rows of six numbers: a shift as above, or
  *
- *   2  number  0  0  0  0          an event that was refused, with its number, 10 to 14
+ *   2  number  event  0  0  0      an event that was refused, with its number, 10 to 16, and which one of this buffer it was,
+ *                                  counted from 1, accepted ones too; each buffer counts anew
  *
  * The result is how many numbers were written. Where `out_length` is less than SUNDEWCUP_FEED_NUMBERS(events_length), that
  * room is the result, so that it is greater than `out_length`; nothing is written, and the session is what it was. A
