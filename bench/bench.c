@@ -29,15 +29,17 @@ static size_t by_event(TakesEvent *take, const Input *input, int64_t *out, size_
 {
     static sundewcup_session session;
     int64_t line;
+    int64_t field;
     size_t count = 0;
-    if (sundewcup_open(&session, input->table, input->table_length, &line) != 0) {
+    if (sundewcup_open(&session, input->table, input->table_length, &line, &field) != 0) {
         return 0;
     }
     for (size_t at = 0; at < input->events_length; at += EVENT_BYTES) {
         size_t made;
         int64_t refused = take(&session, input->events + at, EVENT_BYTES, out + count, &made);
         if (refused != 0) {
-            memcpy(out + count, (const int64_t[ROW_NUMBERS]){ROW_REFUSED_EVENT, refused}, ROW_NUMBERS * sizeof *out);
+            const int64_t row[ROW_NUMBERS] = {ROW_REFUSED_EVENT, refused, (int64_t)(at / EVENT_BYTES) + 1};
+            memcpy(out + count, row, sizeof row);
             made = 1;
         }
         count += made * ROW_NUMBERS;
