@@ -483,6 +483,83 @@ static void figures_of_refused_events(void)
     }
 }
 
+/* Each price on both sides of what is allowed, present and absent. Nothing is tried that presses. */
+static void figures_of_event_prices(void)
+{
+    static const struct { uint32_t flags; int32_t bid; int32_t ask; int refusal; } events[] = {
+        {FLAG_BID, -2000000000, 0, 0}, {FLAG_BID, -2000000001, 0, 16}, {FLAG_BID, 2000000001, 0, 16},
+        {FLAG_BID, INT32_MAX, 0, 16}, {FLAG_BID, INT32_MIN, 0, 16}, {FLAG_ASK, 0, 2000000000, 0},
+        {FLAG_ASK, 0, 2000000001, 16}, {FLAG_ASK, 0, -2000000001, 16}, {FLAG_ASK, 0, INT32_MAX, 16},
+        {FLAG_ASK, 0, INT32_MIN, 16}, {FLAGS_OF_QUOTE, -2000000001, 2000000001, 16},
+        {FLAGS_OF_QUOTE, 1000, 2000000001, 16}, {FLAGS_OF_QUOTE, -2000000001, 1000, 16},
+        {FLAG_BID, 1000, 1, 15}, {FLAG_BID, 1000, -1, 15}, {FLAG_ASK, 1, 1000, 15}, {FLAG_ASK, -1, 1000, 15},
+        {0, 0, 0, 0}, {0, 1, 0, 15}, {0, 0, -1, 15}, {0, 1000, 1000, 15}, {FLAG_BID, 1000, 2000000001, 15},
+        {FLAG_ASK, INT32_MIN, 1000, 15}, {0, 2000000001, 0, 15}, {0, 0, INT32_MIN, 15},
+        {FLAG_BID, 2000000001, 1, 15}, {FLAG_ASK, -1, -2000000001, 15},
+    };
+    TableDraft draft = sample();
+    Course course = started(&draft);
+    for (size_t i = 0; i < sizeof events / sizeof events[0]; i++) {
+        char expected[32] = "";
+        EventDraft event = {{1, 7, events[i].flags, (uint32_t)events[i].bid, (uint32_t)events[i].ask}};
+        if (events[i].refusal != 0) {
+            snprintf(expected, sizeof expected, "R %d\n", events[i].refusal);
+        }
+        check_events("prices present and absent", &course, expected, &event, 1);
+    }
+}
+
+/* Two reasons at once, in every pair that one event can have: the one that comes first in 12, 15, 16, 10, 11, 13, 14. An
+   event with an absent price cannot be crossed, and one after session end is not before the clock. */
+static void figures_of_two_reasons(void)
+{
+    static const struct { const char *name; EventDraft event; Refusal reason; } events[] = {
+        {"12 before 15", {{100, 7, 9, 1000, 7}}, REFUSED_EVENT_FORM},
+        {"12 before 16", {{100, 7, 9, 2000000001, 0}}, REFUSED_EVENT_FORM},
+        {"12 before 10", {{1001, 7, 8, 0, 0}}, REFUSED_EVENT_FORM},
+        {"12 before 11", {{9, 7, 8, 0, 0}}, REFUSED_EVENT_FORM},
+        {"12 before 13", {{100, 9, 8, 0, 0}}, REFUSED_EVENT_FORM},
+        {"12 before 14", {{100, 7, 11, 1000, 999}}, REFUSED_EVENT_FORM},
+        {"tick with a bid out of range", {{100, 0, 4, 2000000001, 0}}, REFUSED_EVENT_FORM},
+        {"tick with crossed prices", {{100, 0, 4, 1000, 999}}, REFUSED_EVENT_FORM},
+        {"tick with an id, after the end", {{1001, 7, 4, 0, 0}}, REFUSED_EVENT_FORM},
+        {"tick with an unknown id, before the clock", {{9, 9, 4, 0, 0}}, REFUSED_EVENT_FORM},
+        {"15 before 16", {{100, 7, 1, 2000000001, 7}}, REFUSED_ABSENT_PRICE},
+        {"15 before 10", {{1001, 7, 1, 1000, 7}}, REFUSED_ABSENT_PRICE},
+        {"15 before 11", {{9, 7, 2, 1000, 1000}}, REFUSED_ABSENT_PRICE},
+        {"15 before 13", {{100, 9, 0, 1, 0}}, REFUSED_ABSENT_PRICE},
+        {"16 before 10", {{1001, 7, 1, 2000000001, 0}}, REFUSED_PRICE_RANGE},
+        {"16 before 11", {{9, 7, 2, 0, 2000000001}}, REFUSED_PRICE_RANGE},
+        {"16 before 13", {{100, 9, 1, 2000000001, 0}}, REFUSED_PRICE_RANGE},
+        {"16 before 14", {{100, 7, 3, 2000000001, 1000}}, REFUSED_PRICE_RANGE},
+        {"10 before 13", {{1001, 9, 0, 0, 0}}, REFUSED_AFTER_END},
+        {"10 before 14", {{1001, 7, 3, 1000, 999}}, REFUSED_AFTER_END},
+        {"11 before 13", {{9, 9, 0, 0, 0}}, REFUSED_BEFORE_CLOCK},
+        {"11 before 14", {{9, 7, 3, 1000, 999}}, REFUSED_BEFORE_CLOCK},
+        {"13 before 14", {{100, 9, 3, 1000, 999}}, REFUSED_UNKNOWN_ID},
+    };
+    TableDraft draft = sample();
+    Course course = started(&draft);
+    check_events("clock at 10", &course, "", EVENTS(draft_tick(10)));
+    for (size_t i = 0; i < sizeof events / sizeof events[0]; i++) {
+        check_event_refused(events[i].name, &course, events[i].event, events[i].reason);
+    }
+}
+
+/* Events with all the reasons that can meet. One is put right after another, and the answer goes on to the next. */
+static void figures_of_all_reasons(void)
+{
+    TableDraft draft = sample();
+    check_session("an absent price, put right by and by", &draft, "R 12\nR 15\nR 16\nR 10\nR 11\nR 13\n",
+                  EVENTS(draft_tick(10), {{1001, 9, 9, 2000000001, 7}}, {{1001, 9, 1, 2000000001, 7}},
+                         {{1001, 9, 1, 2000000001, 0}}, {{1001, 9, 1, 1000, 0}}, {{9, 9, 1, 1000, 0}},
+                         {{10, 9, 1, 1000, 0}}, {{10, 7, 1, 1000, 0}}));
+    check_session("both prices, put right by and by", &draft, "R 12\nR 16\nR 10\nR 11\nR 13\nR 14\n",
+                  EVENTS(draft_tick(10), {{1001, 9, 11, 2000000001, 999}}, {{1001, 9, 3, 2000000001, 999}},
+                         {{1001, 9, 3, 1000, 999}}, {{9, 9, 3, 1000, 999}}, {{10, 9, 3, 1000, 999}},
+                         {{10, 7, 3, 1000, 999}}, {{10, 7, 3, 1000, 1000}}));
+}
+
 /* ---- Refusals of the table ---- */
 
 static void figures_of_header(void)
@@ -541,7 +618,7 @@ static void figures_of_keys(void)
     check_table_refused("keys come before contracts", &draft, REFUSED_KEY, 1);
 }
 
-/* Contract 8 of the sample of two: limits of its ranges, and the field at fault beyond them. */
+/* Contract 8 of the sample of two, at the ends of its ranges and beyond, with the field that is then at fault. */
 static void figures_of_contracts(void)
 {
     static const struct { uint32_t field; uint32_t good; uint32_t bad; uint32_t at_fault; } edges[] = {
@@ -571,6 +648,128 @@ static void figures_of_contracts(void)
     check_table_opens("lowest settlement", &draft);
     draft.contracts[0][CONTRACT_SETTLEMENT] = (uint32_t)-100000001;
     check_field_refused("below the lowest settlement", &draft, 1, 1);
+}
+
+/* A table of one contract, with a field at fault or, where that is 0, with none. */
+static void check_at_fault(const char *name, const TableDraft *draft, uint32_t field)
+{
+    if (field == 0) {
+        check_table_opens(name, draft);
+    } else {
+        check_field_refused(name, draft, 1, field);
+    }
+}
+
+/* The three rates of a contract whose half-move is at least 1 with any of them. */
+static void check_rates(const char *name, uint32_t first, uint32_t second, uint32_t third, uint32_t at_fault)
+{
+    TableDraft draft = sample();
+    const uint32_t rates[] = {first, second, third};
+    memcpy(&draft.contracts[0][CONTRACT_RATE_1], rates, sizeof rates);
+    draft.contracts[0][CONTRACT_SPOT] = 100000000;
+    check_at_fault(name, &draft, at_fault);
+}
+
+static void figures_of_level_rates(void)
+{
+    check_rates("least rates", 1, 1, 1, 0);
+    check_rates("first rate 0", 0, 1, 1, 4);
+    check_rates("all rates 0", 0, 0, 0, 4);
+    check_rates("second rate 0", 1, 0, 1, 5);
+    check_rates("third rate 0", 1, 1, 0, 6);
+    check_rates("greatest rates", 1000000, 1000000, 1000000, 0);
+    check_rates("first rate above", 1000001, 1000000, 1000000, 4);
+    check_rates("all rates above", 1000001, 1000001, 1000001, 4);
+    check_rates("second rate above", 1000000, 1000001, 1000000, 5);
+    check_rates("second and third rate above", 1000000, 1000001, 1000001, 5);
+    check_rates("third rate above", 1000000, 1000000, 1000001, 6);
+    check_rates("second rate falls", 300000, 299999, 300000, 5);
+    check_rates("third rate falls", 300000, 300000, 299999, 6);
+    check_rates("both rates fall", 300000, 200000, 100000, 5);
+    check_rates("second rate falls, third under the first", 300000, 200000, 250000, 5);
+}
+
+static void check_price_and_flags(const char *name, int32_t settlement, uint32_t flags, uint32_t at_fault)
+{
+    TableDraft draft = sample();
+    draft.contracts[0][CONTRACT_SETTLEMENT] = (uint32_t)settlement;
+    draft.contracts[0][CONTRACT_FLAGS] = flags;
+    check_at_fault(name, &draft, at_fault);
+}
+
+/* Whether a price under 1 is at fault hangs on bit 0 alone, also where other bits of the flags are at fault. */
+static void figures_of_price_and_flags(void)
+{
+    check_price_and_flags("price -5, negative permitted", -5, 3, 0);
+    check_price_and_flags("price -5, negative permitted, no watch", -5, 1, 0);
+    check_price_and_flags("price -5, negative not permitted", -5, 2, 1);
+    check_price_and_flags("price -5, no flags", -5, 0, 1);
+    check_price_and_flags("price -5, bits 0 and 2", -5, 5, 10);
+    check_price_and_flags("price 0, bit 2", 0, 4, 1);
+    check_price_and_flags("price 0, bits 0 and 2", 0, 5, 10);
+    check_price_and_flags("price 1, bit 2", 1, 4, 10);
+    check_price_and_flags("price 0, all bits but 0", 0, UINT32_MAX - 1, 1);
+    check_price_and_flags("price 0, all bits", 0, UINT32_MAX, 10);
+    check_price_and_flags("lowest price, all bits", -100000000, UINT32_MAX, 10);
+    check_price_and_flags("below the lowest price, all bits", -100000001, UINT32_MAX, 1);
+    for (int bit = 2; bit < 32; bit++) {
+        check_price_and_flags("a flag bit that has to be zero", 1000, FLAG_WATCHED | UINT32_C(1) << bit, 10);
+    }
+}
+
+typedef struct { uint32_t field; uint32_t bad; } Fault;
+
+/* A contract's fields, each out of its range whatever the others are, where bit 0 of the flags is clear. */
+static const Fault FAULTS[] = {
+    {CONTRACT_SETTLEMENT, 0}, {CONTRACT_SETTLEMENT, 100000001}, {CONTRACT_SETTLEMENT, (uint32_t)-100000001},
+    {CONTRACT_SPOT, 100000001}, {CONTRACT_SPOT, (uint32_t)-100000001}, {CONTRACT_LEAST_PRICE, 0},
+    {CONTRACT_LEAST_PRICE, 100000001}, {CONTRACT_RATE_1, 0}, {CONTRACT_RATE_1, 1000001}, {CONTRACT_RATE_2, 0},
+    {CONTRACT_RATE_2, 1000001}, {CONTRACT_RATE_3, 0}, {CONTRACT_RATE_3, 1000001}, {CONTRACT_WIDTH_SHARE, 1000001},
+    {CONTRACT_WIDTH_SHARE, UINT32_MAX}, {CONTRACT_DAYS_LEFT, 3651}, {CONTRACT_DAYS_LEFT, UINT32_MAX},
+    {CONTRACT_FLAGS, 4}, {CONTRACT_FLAGS, UINT32_C(0x80000000)},
+};
+
+/* The line's id is 0 too, which is looked at after its fields. */
+static void check_two_faults(Fault lower, Fault higher)
+{
+    char name[64];
+    TableDraft draft = sample_of_two();
+    draft.contracts[1][CONTRACT_ID] = 0;
+    draft.contracts[1][lower.field] = lower.bad;
+    draft.contracts[1][higher.field] = higher.bad;
+    snprintf(name, sizeof name, "fields %" PRIu32 " and %" PRIu32 " at fault", lower.field + 1, higher.field + 1);
+    check_field_refused(name, &draft, 2, lower.field + 1);
+}
+
+/* Every two faults of one line. */
+static void figures_of_two_faults(void)
+{
+    const size_t faults = sizeof FAULTS / sizeof FAULTS[0];
+    for (size_t i = 0; i < faults; i++) {
+        for (size_t k = i + 1; k < faults; k++) {
+            if (FAULTS[i].field != FAULTS[k].field) {
+                check_two_faults(FAULTS[i], FAULTS[k]);
+            }
+        }
+    }
+}
+
+/* All nine fields at fault, and the id 0. They are put right one after another, and the answer goes on to the next. */
+static void figures_of_all_faults(void)
+{
+    TableDraft draft = sample_of_two();
+    uint32_t *contract = draft.contracts[1];
+    for (size_t i = 0; i < sizeof FAULTS / sizeof FAULTS[0]; i++) {
+        contract[FAULTS[i].field] = FAULTS[i].bad;
+    }
+    contract[CONTRACT_ID] = 0;
+    for (uint32_t field = 0; field < CONTRACT_FIELDS; field++) {
+        if (field != CONTRACT_ID) {
+            check_field_refused("all fields from here on at fault", &draft, 2, field + 1);
+            contract[field] = draft.contracts[0][field];
+        }
+    }
+    check_table_refused("no field but the id at fault", &draft, REFUSED_ID, 2);
 }
 
 static void figures_of_ids(void)
@@ -719,6 +918,24 @@ static void readings_of_order(void)
     check_session("13 before 14", &draft, "R 13\n", EVENTS(draft_quote(1, 9, 1000, 999)));
 }
 
+static void readings_of_fields(void)
+{
+    check_price_and_flags("A6 flags 4 and price -5", -5, 4, 1);
+    check_rates("A6 first rate above, then lower ones", 2000000, 500000, 600000, 4);
+    check_rates("A6 third rate falls", 300000, 400000, 350000, 6);
+    check_rates("A6 second rate above, third falls", 5, 2000000, 3, 5);
+
+    TableDraft draft = sample();
+    for (uint32_t id = 8; id <= 26; id++) {
+        add_contract(&draft, id);
+    }
+    draft.contracts[18][CONTRACT_WIDTH_SHARE] = 1000001;
+    check_program("A7 the field after the line", &draft, 0, "T 5 19 7\n", NULL, 0);
+    draft.contracts[18][CONTRACT_WIDTH_SHARE] = 500000;
+    draft.contracts[18][CONTRACT_ID] = 7;
+    check_program("A7 no field with another number", &draft, 0, "T 6 19\n", NULL, 0);
+}
+
 static void readings_of_program(void)
 {
     TableDraft draft = sample();
@@ -762,17 +979,17 @@ static void figures_of_long_input(void)
     check_text("long input", whole_text(bytes, length + 1).text, "70 U 7\nR 12\n7 950 1100 900 1150\n");
 }
 
-/* Runs the input with exactly the room it needs. */
+/* Runs the input with exactly the room it needs, and with one number less. */
 static void check_rows(const char *name, const uint8_t *bytes, size_t length, const int64_t *expected, size_t count)
 {
     int64_t rows[ROWS_ROOM(INPUT_BYTES)];
     Input input = input_of(bytes, length);
     size_t room = ROWS_ROOM(input.events_length);
-    check_number(name, (int64_t)rows_run(&input, rows, room), (int64_t)count);
-    check_number(name, memcmp(rows, expected, count * sizeof rows[0]), 0);
+    check_shown(name, (int64_t)engine_rows(&input, rows, room), (int64_t)count);
+    check_shown(name, memcmp(rows, expected, count * sizeof rows[0]), 0);
     memset(rows, 0x55, sizeof rows);
-    check_number(name, (int64_t)rows_run(&input, rows, room - 1), (int64_t)room);
-    check_number(name, rows[0], INT64_C(0x5555555555555555));
+    check_shown(name, (int64_t)engine_rows(&input, rows, room - 1), (int64_t)room);
+    check_shown(name, rows[0], INT64_C(0x5555555555555555));
 }
 
 static void figures_of_rows(void)
@@ -788,6 +1005,35 @@ static void figures_of_rows(void)
     check_rows("rows of every kind but one", bytes, length + 1, rows, sizeof rows / sizeof rows[0]);
     bytes[sizeof SAMPLE_TABLE - 4] = 4;
     check_rows("row of a refused table", bytes, length, (const int64_t[]){3, 5, 1, 10, 0, 0}, ROW_NUMBERS);
+    bytes[sizeof SAMPLE_TABLE - 4] = 2;
+    bytes[sizeof SAMPLE_TABLE - 8] = 0;
+    check_rows("row of a refused table, no field", bytes, length, (const int64_t[]){3, 6, 1, 0, 0, 0}, ROW_NUMBERS);
+}
+
+/* Each refusal of an event, with accepted events before, between and after them, and a last one that is cut. */
+static void figures_of_event_places(void)
+{
+    const EventDraft events[] = {
+        draft_bid(10, 7, 1046), {{20, 7, 1, 1046, 1}}, draft_tick(30), draft_bid(40, 7, 2000000001), draft_tick(9),
+        draft_tick(70), draft_tick(1001), draft_tick(71), draft_tick(72), draft_empty(80, 8),
+        draft_quote(80, 7, 1000, 999), draft_tick(1000),
+    };
+    const int64_t rows[] = {
+        2, 15, 2, 0, 0, 0, 2, 16, 4, 0, 0, 0, 2, 11, 5, 0, 0, 0, 1, 70, 0, 7, 0, 0, 2, 10, 7, 0, 0, 0, 2, 13, 10, 0, 0, 0,
+        2, 14, 11, 0, 0, 0, 2, 12, 13, 0, 0, 0, 4, 7, 950, 1100, 900, 1150,
+    };
+    uint8_t bytes[INPUT_BYTES] = {0};
+    size_t length = sizeof SAMPLE_TABLE;
+    memcpy(bytes, SAMPLE_TABLE, length);
+    for (size_t i = 0; i < sizeof events / sizeof events[0]; i++) {
+        length += draft_write_event(&events[i], bytes + length);
+    }
+    check_rows("places of refused events", bytes, length + 19, rows, sizeof rows / sizeof rows[0]);
+    const int64_t second[] = {2, 12, 2, 0, 0, 0, 4, 7, 950, 1050, 900, 1100};
+    length = sizeof SAMPLE_TABLE + EVENT_BYTES;
+    check_rows("place of a cut event", bytes, length + 1, second, sizeof second / sizeof second[0]);
+    const int64_t only[] = {2, 12, 1, 0, 0, 0, 4, 7, 950, 1050, 900, 1100};
+    check_rows("place of the only event, cut", bytes, length - 1, only, sizeof only / sizeof only[0]);
 }
 
 static void readings_of_questions(void)
@@ -1336,17 +1582,26 @@ int main(void)
     figures_of_shifts();
     figures_of_shifts_with_growth();
     figures_of_refused_events();
+    figures_of_event_prices();
+    figures_of_two_reasons();
+    figures_of_all_reasons();
     figures_of_header();
     figures_of_keys();
     figures_of_contracts();
+    figures_of_level_rates();
+    figures_of_price_and_flags();
+    figures_of_two_faults();
+    figures_of_all_faults();
     figures_of_ids();
     figures_of_many_ids();
     readings_of_caps();
     readings_of_freezing();
     readings_of_order();
+    readings_of_fields();
     readings_of_program();
     figures_of_long_input();
     figures_of_rows();
+    figures_of_event_places();
     readings_of_questions();
     readings_of_widths();
     readings_of_zero_width();

@@ -12,6 +12,11 @@
 
 const bool ENGINE_IS_THIS_ONE = false;
 
+size_t engine_rows(const Input *input, int64_t *out, size_t out_length)
+{
+    return sundewcup_run(input->table, input->table_length, input->events, input->events_length, out, out_length);
+}
+
 bool engine_text(const uint8_t *input, size_t length, char *text, size_t room)
 {
     Input parts = input_of(input, length);
@@ -20,7 +25,7 @@ bool engine_text(const uint8_t *input, size_t length, char *text, size_t room)
     if (rows == NULL) {
         return false;
     }
-    size_t count = sundewcup_run(parts.table, parts.table_length, parts.events, parts.events_length, rows, most);
+    size_t count = engine_rows(&parts, rows, most);
     bool good = count <= most && text_of_rows(rows, count, text, room);
     free(rows);
     return good;
