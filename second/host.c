@@ -34,6 +34,8 @@ typedef enum {
     COMPARED_QUESTIONS,
     COMPARED_REPORTS,
     COMPARED_LEVELS,
+    COMPARED_OPENED,
+    COMPARED_PLACES,
     COMPARED_UNCHECKED,
     COMPARED_THICKENED_EVENTS,
     COMPARED_THICKENED_FEED,
@@ -52,6 +54,8 @@ static const char *const NAMES[COMPARISONS] = {
     [COMPARED_QUESTIONS] = "limits and places as the closing rows say",
     [COMPARED_REPORTS] = "all that stands on a line",
     [COMPARED_LEVELS] = "market bounds of the three levels, worked out by hand",
+    [COMPARED_OPENED] = "line and field 0 where a table is opened",
+    [COMPARED_PLACES] = "which event of its buffer was refused, worked out by hand",
     [COMPARED_UNCHECKED] = "the same without the test of the memory",
     [COMPARED_THICKENED_EVENTS] = "shifts and memory with and without free events, event by event",
     [COMPARED_THICKENED_FEED] = "shifts and memory with and without free events, in buffers",
@@ -60,8 +64,10 @@ static const char *const NAMES[COMPARISONS] = {
     [COMPARED_NO_SESSION] = "memory without a session refused, after a refused table too, and left as it was",
 };
 
+/* The rows so far, and how many events they answer. */
 typedef struct {
     size_t count;
+    size_t events;
     int64_t numbers[MOST_NUMBERS];
 } Answer;
 
@@ -70,6 +76,12 @@ static bool differ[COMPARISONS];
 static void expect(Comparison comparison, bool good)
 {
     differ[comparison] = differ[comparison] || !good;
+}
+
+static void start(Answer *answer)
+{
+    answer->count = 0;
+    answer->events = 0;
 }
 
 static void add(Answer *answer, const int64_t *numbers, size_t count)
@@ -95,6 +107,32 @@ static bool same(const sundewcup_session *one, const sundewcup_session *other)
     return memcmp(one, other, sizeof *one) == 0;
 }
 
+/* The number, the line and the field that a table is answered with. */
+typedef struct {
+    int64_t number;
+    int64_t line;
+    int64_t field;
+} Opened;
+
+static Opened open_table(sundewcup_session *session, const uint8_t *table, size_t length)
+{
+    Opened opened = {.line = -1, .field = -1};
+    opened.number = sundewcup_open(session, table, length, &opened.line, &opened.field);
+    expect(COMPARED_OPENED, opened.number != 0 || (opened.line == 0 && opened.field == 0));
+    return opened;
+}
+
+/* Opens the input's table and starts the answer, with the row of a refused one; says whether it is opened. */
+static bool open_input(sundewcup_session *session, const Input *input, Answer *answer)
+{
+    Opened opened = open_table(session, input->table, input->table_length);
+    start(answer);
+    if (opened.number != 0) {
+        add(answer, (const int64_t[ROW_NUMBERS]){ROW_REFUSED_TABLE, opened.number, opened.line, opened.field}, ROW_NUMBERS);
+    }
+    return opened.number == 0;
+}
+
 /* ---- One event after another ---- */
 
 /* Says whether the event was accepted. */
@@ -110,9 +148,10 @@ static bool take_event(sundewcup_session *session, const uint8_t *event, size_t 
     int64_t other_refused = sundewcup_event_unchecked(&other, event, length, other_shifts, &other_made);
     expect(COMPARED_UNCHECKED, refused == other_refused && made == other_made && same(session, &other)
                                    && memcmp(shifts, other_shifts, made * ROW_NUMBERS * sizeof *shifts) == 0);
+    answer->events++;
     if (refused != 0) {
         expect(COMPARED_REFUSED, made == 0 && same(session, &before));
-        add(answer, (const int64_t[ROW_NUMBERS]){ROW_REFUSED_EVENT, refused}, ROW_NUMBERS);
+        add(answer, (const int64_t[ROW_NUMBERS]){ROW_REFUSED_EVENT, refused, (int64_t)answer->events}, ROW_NUMBERS);
     } else {
         add(answer, shifts, made * ROW_NUMBERS);
     }
@@ -129,11 +168,7 @@ static void take_closing(const sundewcup_session *session, Answer *answer)
 
 static void run_events(sundewcup_session *session, const Input *input, Answer *answer)
 {
-    int64_t line;
-    int64_t refused = sundewcup_open(session, input->table, input->table_length, &line);
-    answer->count = 0;
-    if (refused != 0) {
-        add(answer, (const int64_t[ROW_NUMBERS]){ROW_REFUSED_TABLE, refused, line}, ROW_NUMBERS);
+    if (!open_input(session, input, answer)) {
         return;
     }
     for (size_t at = 0; at < input->events_length; at += EVENT_BYTES) {
@@ -143,6 +178,14 @@ static void run_events(sundewcup_session *session, const Input *input, Answer *a
 }
 
 /* ---- In buffers ---- */
+
+/* The rows of a buffer, in which its own events count from 1, as rows of the whole input. */
+static void count_on(int64_t *rows, size_t count, size_t events_before)
+{
+    for (size_t i = 0; i < count; i += ROW_NUMBERS) {
+        rows[i + 2] += rows[i] == ROW_REFUSED_EVENT ? (int64_t)events_before : 0;
+    }
+}
 
 static void feed(sundewcup_session *session, const uint8_t *events, size_t length, Answer *answer)
 {
@@ -154,21 +197,24 @@ static void feed(sundewcup_session *session, const uint8_t *events, size_t lengt
         exit(EXIT_FAILURE);
     }
     expect(COMPARED_SHORT_ROOM, sundewcup_feed(session, events, length, out, room - 1) == room && same(session, &before));
-    add(answer, out, sundewcup_feed(session, events, length, out, room));
+    size_t count = sundewcup_feed(session, events, length, out, room);
+    count_on(out, count, answer->events);
+    add(answer, out, count);
+    answer->events += (length + EVENT_BYTES - 1) / EVENT_BYTES;
     free(out);
 }
 
+/* Some inputs are fed in one buffer, most in several. */
 static void run_buffers(sundewcup_session *session, const Input *input, Random *random, Answer *answer)
 {
-    int64_t line;
-    answer->count = 0;
-    if (sundewcup_open(session, input->table, input->table_length, &line) != 0) {
+    if (!open_input(session, input, answer)) {
         return;
     }
+    bool at_once = chance(random, 20);
     size_t at = 0;
     while (at < input->events_length) {
         size_t left = input->events_length - at;
-        size_t some = (size_t)between(random, 1, 50) * EVENT_BYTES;
+        size_t some = at_once ? left : (size_t)between(random, 1, 50) * EVENT_BYTES;
         feed(session, input->events + at, some < left ? some : left, answer);
         at += some < left ? some : left;
     }
@@ -184,8 +230,8 @@ static void step_thickened(sundewcup_session *plain, sundewcup_session *with, co
 {
     static Answer plain_answer;
     static Answer answer;
-    plain_answer.count = 0;
-    answer.count = 0;
+    start(&plain_answer);
+    start(&answer);
     for (size_t at = 0; at < thickened->length; at += EVENT_BYTES) {
         size_t length = input_event_length(thickened->length - at);
         bool accepted = take_event(with, thickened->bytes + at, length, &answer);
@@ -208,14 +254,13 @@ static void take_thickened(const Input *input, const sundewcup_session *end, con
 {
     static Thickened thickened;
     static Answer answer;
-    int64_t line;
     Tally tally = {{0}};
     thicken(input, &thickened);
     expect(COMPARED_THICKENED_SECOND, thickened_agrees(input, &thickened, &tally));
     tally_add(&total, &tally);
     sundewcup_session *plain = make_session();
     sundewcup_session *with = make_session();
-    if (sundewcup_open(plain, input->table, input->table_length, &line) == 0) {
+    if (open_table(plain, input->table, input->table_length).number == 0) {
         Input with_added = thickened_input(input, &thickened);
         *with = *plain;
         step_thickened(plain, with, &thickened);
@@ -329,12 +374,49 @@ static void take_levels(const LevelFigure *figure)
     draft_write_event(&tick, bytes + length + EVENT_BYTES);
     sundewcup_session *session = make_session();
     int64_t out[SUNDEWCUP_FEED_NUMBERS(2 * EVENT_BYTES)];
-    int64_t line;
-    expect(COMPARED_LEVELS, sundewcup_open(session, bytes, length, &line) == 0);
+    expect(COMPARED_LEVELS, open_table(session, bytes, length).number == 0);
     expect_levels(session, &figure->opened);
     expect(COMPARED_LEVELS, sundewcup_feed(session, bytes + length, 2 * EVENT_BYTES, out,
                                            SUNDEWCUP_FEED_NUMBERS(2 * EVENT_BYTES)) == ROW_NUMBERS);
     expect_levels(session, &figure->shifted);
+    free(session);
+}
+
+/* ---- Figures of places ---- */
+
+/* Two buffers of events over the sample table, one after the other, and their rows. Of the first the second and the fourth
+   event are refused, and the fifth makes a shift; of the other the first, and the third, which is cut. */
+static const struct {
+    size_t length;
+    EventDraft events[5];
+    size_t count;
+    int64_t rows[3 * ROW_NUMBERS];
+} PLACE_FIGURE[] = {
+    {5 * EVENT_BYTES,
+     {{{10, 7, FLAG_BID, 1046, 0}}, {{20, 7, FLAG_BID, 1046, 1}}, {{30, 0, FLAG_TICK, 0, 0}},
+      {{40, 7, FLAG_ASK, 0, 2000000001}}, {{70, 0, FLAG_TICK, 0, 0}}},
+     3 * ROW_NUMBERS, {2, 15, 2, 0, 0, 0, 2, 16, 4, 0, 0, 0, 1, 70, 0, 7, 0, 0}},
+    {3 * EVENT_BYTES - 1,
+     {{{69, 0, FLAG_TICK, 0, 0}}, {{71, 0, FLAG_TICK, 0, 0}}, {{72, 0, FLAG_TICK, 0, 0}}},
+     2 * ROW_NUMBERS, {2, 11, 1, 0, 0, 0, 2, 12, 3, 0, 0, 0}},
+};
+
+static void take_places(void)
+{
+    uint8_t bytes[LONGEST_TABLE];
+    TableDraft draft = sample();
+    sundewcup_session *session = make_session();
+    expect(COMPARED_PLACES, open_table(session, bytes, draft_write_table(&draft, bytes)).number == 0);
+    for (size_t i = 0; i < sizeof PLACE_FIGURE / sizeof PLACE_FIGURE[0]; i++) {
+        int64_t out[SUNDEWCUP_FEED_NUMBERS(5 * EVENT_BYTES)];
+        size_t length = PLACE_FIGURE[i].length;
+        size_t count = PLACE_FIGURE[i].count;
+        for (size_t at = 0; at < length; at += EVENT_BYTES) {
+            draft_write_event(&PLACE_FIGURE[i].events[at / EVENT_BYTES], bytes + at);
+        }
+        expect(COMPARED_PLACES, sundewcup_feed(session, bytes, length, out, SUNDEWCUP_FEED_NUMBERS(length)) == count
+                                    && memcmp(out, PLACE_FIGURE[i].rows, count * sizeof *out) == 0);
+    }
     free(session);
 }
 
@@ -385,11 +467,10 @@ static sundewcup_session earlier;
 static void take_refused(sundewcup_session *session, const Input *input)
 {
     sundewcup_session *over = make_session();
-    int64_t line;
     *over = earlier;
     refused_tables++;
     expect(COMPARED_NO_SESSION, refused_by_all(session));
-    expect(COMPARED_NO_SESSION, sundewcup_open(over, input->table, input->table_length, &line) != 0);
+    expect(COMPARED_NO_SESSION, open_table(over, input->table, input->table_length).number != 0);
     expect(COMPARED_NO_SESSION, refused_by_all(over));
     free(over);
 }
@@ -471,12 +552,12 @@ static void take(const uint8_t *bytes, size_t length, uint64_t number)
     size_t size = second.count * sizeof(int64_t);
     expect(COMPARED_ROWS, second.count == events.count && memcmp(second.numbers, events.numbers, size) == 0);
     expect(COMPARED_TEXT, text_same(events.numbers, events.count, bytes, length));
+    expect(COMPARED_FEED, second.count == buffers.count && memcmp(second.numbers, buffers.numbers, size) == 0);
     expect(COMPARED_FEED, same(one, other));
     take_thickened(&input, one, &events, &random);
     if (second.numbers[0] == ROW_REFUSED_TABLE) {
         take_refused(one, &input);
     } else {
-        expect(COMPARED_FEED, second.count == buffers.count && memcmp(second.numbers, buffers.numbers, size) == 0);
         take_opened(one, &input, &events, number);
     }
     free(one);
@@ -525,6 +606,7 @@ int main(int count, char **words)
     for (int i = 0; i < LEVEL_FIGURES; i++) {
         take_levels(&LEVEL_FIGURE[i]);
     }
+    take_places();
     take_unfilled();
     expect(COMPARED_DAMAGE, damaged_sessions > opened_sessions / 4);
     expect(COMPARED_NO_SESSION, refused_tables >= INPUTS_FOR_EACH_COUNT);
