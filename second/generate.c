@@ -6,6 +6,7 @@
 #include "generate.h"
 
 #include "draft.h"
+#include "edges.h"
 #include "input.h"
 #include "random.h"
 
@@ -312,7 +313,7 @@ static TableDraft make_table(Random *random)
         }
         mend_contract(&draft, i);
     }
-    if (chance(random, 8)) {
+    if (chance(random, 10)) {
         make_greatest(&draft);
     }
     return draft;
@@ -372,26 +373,67 @@ static void damage_key(Random *random, TableDraft *draft)
     }
 }
 
+/* Gives a contract the last good value at an edge, and lets all contracts open with it if they can. */
+static void bring_to_edge(TableDraft *draft, uint32_t index, const Edge *edge)
+{
+    edge_put(draft->contracts[index], edge, true);
+    if (edge->field == CONTRACT_DAYS_LEFT) {
+        /* So many days are within the exponent's cap only at low rates. */
+        set_rates_of_keys(draft, 50000);
+    }
+    for (uint32_t i = 0; i < draft->contract_count; i++) {
+        mend_contract(draft, i);
+    }
+}
+
+/* Mostly the first bad value at the edge, or any. */
+static void bring_beyond_edge(Random *random, uint32_t *contract, const Edge *edge)
+{
+    edge_put(contract, edge, false);
+    if (chance(random, 15)) {
+        contract[edge->field] = wild(random);
+    }
+}
+
+static uint32_t any_edge_of(Random *random, uint32_t field)
+{
+    uint32_t edge = count_between(random, 0, EDGES - 1);
+    while (EDGE[edge].field != field) {
+        edge = count_between(random, 0, EDGES - 1);
+    }
+    return edge;
+}
+
+/* Two fields of a contract beyond their edges, the first of them any but the flags, which come last. */
+static void damage_two_fields(Random *random, uint32_t *contract)
+{
+    uint32_t first = any_edge_of(random, count_between(random, CONTRACT_SETTLEMENT, CONTRACT_DAYS_LEFT));
+    uint32_t later = first;
+    while (EDGE[later].field == EDGE[first].field) {
+        later = count_between(random, first, EDGES - 1);
+    }
+    bring_beyond_edge(random, contract, &EDGE[first]);
+    bring_beyond_edge(random, contract, &EDGE[later]);
+}
+
+static void damage_one_field(Random *random, uint32_t *contract)
+{
+    uint32_t field = count_between(random, CONTRACT_SETTLEMENT, CONTRACT_ID);
+    uint32_t edge = any_edge_of(random, field == CONTRACT_ID ? CONTRACT_FLAGS : field);
+    bring_beyond_edge(random, contract, &EDGE[edge]);
+}
+
 static void damage_contract(Random *random, TableDraft *draft)
 {
-    static const struct { uint32_t field; int64_t least; int64_t most; } ranges[] = {
-        {CONTRACT_SETTLEMENT, -100000000, 100000000}, {CONTRACT_SPOT, -100000000, 100000000},
-        {CONTRACT_LEAST_PRICE, 1, 100000000}, {CONTRACT_RATE_1, 1, 1000000}, {CONTRACT_RATE_2, 1, 1000000},
-        {CONTRACT_RATE_3, 1, 1000000}, {CONTRACT_WIDTH_SHARE, 0, 1000000}, {CONTRACT_DAYS_LEFT, 0, 3650},
-    };
-    uint32_t *contract = any_contract(random, draft);
-    int64_t which = between(random, 0, 11);
-    if (which < 8) {
-        contract[ranges[which].field] = outside(random, ranges[which].least, ranges[which].most);
-    } else if (which == 8) {
-        contract[CONTRACT_RATE_2] = contract[CONTRACT_RATE_1] - 1;
-    } else if (which == 9) {
-        contract[CONTRACT_RATE_3] = contract[CONTRACT_RATE_2] - 1;
-    } else if (which == 10) {
-        contract[CONTRACT_SETTLEMENT] = (uint32_t)between(random, -3, 1);
-        contract[CONTRACT_FLAGS] &= ~(uint32_t)FLAG_PERMITS_NEGATIVE;
+    uint32_t index = count_between(random, 0, draft->contract_count - 1);
+    uint32_t edge = count_between(random, 0, EDGES - 1);
+    int64_t kind = between(random, 0, 99);
+    if (kind < 30) {
+        bring_to_edge(draft, index, &EDGE[edge]);
+    } else if (kind < 65) {
+        damage_one_field(random, draft->contracts[index]);
     } else {
-        contract[CONTRACT_FLAGS] |= UINT32_C(4) << between(random, 0, 29);
+        damage_two_fields(random, draft->contracts[index]);
     }
 }
 
@@ -490,12 +532,14 @@ static void damage(Random *random, TableDraft *draft, Refusal aim)
 /* ---- Good events ---- */
 
 /* How one input goes on: its session, how often its quotes are about the upper limit and keep on pressing, how
-   often its events are spoiled, and the latest second that the next good event may have. */
+   often its time leaps over as many holds as there can be shifts, how often its events are spoiled, and the latest second
+   that the next good event may have. */
 typedef struct {
     Random *random;
     Session session;
     int64_t upper_percent;
     int64_t steady_percent;
+    int64_t leap_percent;
     int64_t spoiled_percent;
     int64_t latest;
 } Course;
@@ -524,7 +568,9 @@ static uint32_t make_time(Course *course)
     int64_t hold = course->session.hold.seconds;
     int64_t time = clock;
     int64_t kind = between(random, 0, 999);
-    if (kind < 150) {
+    if (chance(random, course->leap_percent)) {
+        time = clock + between(random, MOST_SHIFTS * hold - 1, (MOST_SHIFTS + 2) * hold);
+    } else if (kind < 150) {
         time = clock + between(random, 1, 2);
     } else if (kind < 400) {
         time = due_of_some_hold(course);
@@ -602,17 +648,43 @@ static EventDraft make_event(Course *course)
 
 static void spoil_form(Random *random, EventDraft *event)
 {
-    static const uint32_t bad_prices[] = {2000000001, (uint32_t)-2000000001, INT32_MAX, UINT32_C(0x80000000)};
     int64_t field = between(random, EVENT_ID, EVENT_ASK);
-    uint32_t bad_price = bad_prices[between(random, 0, 3)];
-    switch (between(random, 0, 5)) {
+    switch (between(random, 0, 4)) {
     case 0: event->fields[EVENT_FLAGS] = count_between(random, 5, 9); break;
     case 1: event->fields[EVENT_FLAGS] |= UINT32_C(4) << between(random, 0, 29); break;
-    case 2: event->fields[EVENT_FLAGS] ^= UINT32_C(1) << between(random, 0, 2); break;
+    case 2: event->fields[EVENT_FLAGS] = FLAG_TICK; break;
     case 3: event->fields[field] = (uint32_t)between(random, -1, 1); break;
-    case 4: event->fields[field] = wild(random); break;
-    default: event->fields[field] = bad_price; break;
+    default: event->fields[field] = wild(random); break;
     }
+}
+
+/* A price out of range, mostly by one. */
+static uint32_t bad_price(Random *random)
+{
+    static const uint32_t prices[] = {2000000001, (uint32_t)-2000000001, INT32_MAX, UINT32_C(0x80000000)};
+    return prices[between(random, 0, chance(random, 75) ? 1 : 3)];
+}
+
+/* A price that its flag says is absent: the one that stood there, one beside 0, or one out of range. */
+static void spoil_absence(Random *random, EventDraft *event)
+{
+    bool bid = chance(random, 50);
+    uint32_t *price = &event->fields[bid ? EVENT_BID : EVENT_ASK];
+    event->fields[EVENT_FLAGS] &= ~(uint32_t)(bid ? FLAG_BID : FLAG_ASK);
+    switch (between(random, 0, 3)) {
+    case 0: *price = 1; break;
+    case 1: *price = UINT32_MAX; break;
+    case 2: *price = bad_price(random); break;
+    default: *price = *price == 0 ? wild(random) : *price; break;
+    }
+}
+
+/* A price out of range that its flag says is present. */
+static void spoil_range(Random *random, EventDraft *event)
+{
+    bool bid = chance(random, 50);
+    event->fields[EVENT_FLAGS] |= bid ? FLAG_BID : FLAG_ASK;
+    event->fields[bid ? EVENT_BID : EVENT_ASK] = bad_price(random);
 }
 
 static void spoil_id(Random *random, EventDraft *event)
@@ -639,11 +711,13 @@ static void spoil_event(Course *course, EventDraft *event)
     Random *random = course->random;
     uint32_t clock = course->session.clock.seconds;
     uint32_t end = course->session.session_end.seconds;
-    switch (between(random, REFUSED_AFTER_END, REFUSED_CROSSED)) {
+    switch (between(random, REFUSED_AFTER_END, REFUSED_PRICE_RANGE)) {
     case REFUSED_AFTER_END: event->fields[EVENT_TIME] = outside(random, 0, end); break;
     case REFUSED_BEFORE_CLOCK: event->fields[EVENT_TIME] = clock - count_between(random, 1, 1 + clock / 2); break;
     case REFUSED_EVENT_FORM: spoil_form(random, event); break;
     case REFUSED_UNKNOWN_ID: spoil_id(random, event); break;
+    case REFUSED_ABSENT_PRICE: spoil_absence(random, event); break;
+    case REFUSED_PRICE_RANGE: spoil_range(random, event); break;
     default: spoil_prices(random, event); break;
     }
     /* A second fault at times, so that the order of the refusals shows. */
@@ -695,6 +769,7 @@ static void choose_course(Course *course)
     Random *random = course->random;
     course->upper_percent = upperness[between(random, 0, 4)];
     course->steady_percent = steadiness[between(random, 0, 3)];
+    course->leap_percent = chance(random, 10) ? 10 : 0;
     course->spoiled_percent = spoiling[between(random, 0, 4)];
 }
 
@@ -731,7 +806,7 @@ static size_t damage_bytes(Random *random, TableDraft *draft, uint8_t *bytes)
     return length;
 }
 
-/* Writes the table, damaged in about one input out of four. */
+/* Writes the table, damaged in about one input out of three. */
 static size_t add_table(Random *random, uint8_t *bytes)
 {
     TableDraft draft = make_table(random);
@@ -744,6 +819,9 @@ static size_t add_table(Random *random, uint8_t *bytes)
     } else if (kind < 25) {
         /* Refusal 9 more often than the others, since it hangs on the factors. */
         damage(random, &draft, REFUSED_LIMITS);
+    } else if (kind < 35) {
+        /* So is refusal 5, since it tells nine fields apart. */
+        damage(random, &draft, REFUSED_CONTRACT);
     }
     /* A second damage at times, so that the order of the refusals shows. */
     if (kind < 20 && chance(random, 20)) {
