@@ -57,12 +57,22 @@ uint32_t draft_read_field(const uint8_t *bytes, size_t number)
     return (uint32_t)start[0] | (uint32_t)start[1] << 8 | (uint32_t)start[2] << 16 | (uint32_t)start[3] << 24;
 }
 
+static void read_fields(const uint8_t *bytes, uint32_t *fields, size_t count)
+{
+    for (size_t i = 0; i < count; i++) {
+        fields[i] = draft_read_field(bytes, i);
+    }
+}
+
+void draft_read_contract(const uint8_t *bytes, uint32_t contract[CONTRACT_FIELDS])
+{
+    read_fields(bytes, contract, CONTRACT_FIELDS);
+}
+
 EventDraft draft_read_event(const uint8_t *bytes)
 {
     EventDraft event;
-    for (size_t i = 0; i < EVENT_FIELDS; i++) {
-        event.fields[i] = draft_read_field(bytes, i);
-    }
+    read_fields(bytes, event.fields, EVENT_FIELDS);
     return event;
 }
 

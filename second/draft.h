@@ -31,6 +31,7 @@ Steps draft_price(uint32_t field);
 size_t draft_write_table(const TableDraft *draft, uint8_t *bytes);
 size_t draft_write_event(const EventDraft *event, uint8_t *bytes);
 uint32_t draft_read_field(const uint8_t *bytes, size_t number);
+void draft_read_contract(const uint8_t *bytes, uint32_t contract[CONTRACT_FIELDS]);
 EventDraft draft_read_event(const uint8_t *bytes);
 
 EventDraft draft_tick(uint32_t time);

@@ -2,7 +2,7 @@
  * host.c: the program "host". It gives the same inputs to this engine and to the proved one as a host in C has it: a
  * session in memory of its own, one event after another, damaged at the end; or memory without a session, where the table is
  * refused. It also adds free events to each input (thickened.h), which have to leave every number of that memory as it is
- * without them. It fails at any difference, and where too few inputs let an added event show.
+ * without them. It fails at any difference, and where too few inputs bring a field, a refusal or an added event to the test.
  *
  *   host FILE..     generated inputs of a fixed seed, and then the files
  */
@@ -249,12 +249,12 @@ static void step_thickened(sundewcup_session *plain, sundewcup_session *with, co
 
 static TallyTotal total;
 
-/* The end and the answer are those of the input without free events. */
+/* The end and the answer are those of the input without free events. Here too is counted what the input brings about. */
 static void take_thickened(const Input *input, const sundewcup_session *end, const Answer *plain_answer, Random *random)
 {
     static Thickened thickened;
     static Answer answer;
-    Tally tally = {{0}};
+    Tally tally = tally_input(input);
     thicken(input, &thickened);
     expect(COMPARED_THICKENED_SECOND, thickened_agrees(input, &thickened, &tally));
     tally_add(&total, &tally);
@@ -581,7 +581,7 @@ static void take_file(const char *name, uint64_t number)
    a session has the length of the header's. */
 static bool judge(void)
 {
-    int checks = 1 + COMPARISONS + (TALLY_COUNTS - TALLY_FIRST_ADDED);
+    int checks = 1 + COMPARISONS + (TALLY_COUNTS - TALLY_FIRST_FAULT);
     int passed = sundewcup_session_numbers() == SUNDEWCUP_SESSION_NUMBERS;
     for (int i = 0; i < COMPARISONS; i++) {
         if (differ[i]) {
@@ -589,7 +589,7 @@ static bool judge(void)
         }
         passed += !differ[i];
     }
-    passed += tally_enough(&total, TALLY_FIRST_ADDED, INPUTS, INPUTS_FOR_EACH_COUNT);
+    passed += tally_enough(&total, TALLY_FIRST_FAULT, INPUTS, INPUTS_FOR_EACH_COUNT);
     printf("%d passed, %d failed\n", passed, checks - passed);
     return passed == checks;
 }
@@ -610,7 +610,7 @@ int main(int count, char **words)
     take_unfilled();
     expect(COMPARED_DAMAGE, damaged_sessions > opened_sessions / 4);
     expect(COMPARED_NO_SESSION, refused_tables >= INPUTS_FOR_EACH_COUNT);
-    tally_print(&total, TALLY_FIRST_ADDED);
+    tally_print(&total, TALLY_FIRST_FAULT);
     printf("%d inputs, %d of them files; %zu sessions damaged, %zu tables refused\n", INPUTS + count - 1, count - 1,
            damaged_sessions, refused_tables);
     return judge() ? EXIT_SUCCESS : EXIT_FAILURE;

@@ -4,6 +4,7 @@
 #include "tally.h"
 
 #include "draft.h"
+#include "faults.h"
 
 #include <inttypes.h>
 #include <stdio.h>
@@ -65,24 +66,27 @@ static const char *const NAMES[TALLY_COUNTS] = {
     [TALLY_OTHER_REFUSAL] = "events refused with another number",
 };
 
-/* How many of a thousand generated inputs have to bring it about. Behind it, for what contracts near zero bring about:
-   about how many do, and how many would if generate.c brought no contracts near zero (for refusal 9, if damage_limits
-   brought none around zero), so that each of these demands would fail then. */
+/* How many of a thousand generated inputs have to bring it about. Behind it: about how many do, and how many would without
+   a step of generate.c, so that each of these demands would fail then. The step is spoil_absence for refusal 15 and
+   spoil_range for 16, damage_limits' bringing contracts around zero for refusal 9, and for the others that contracts are
+   brought near zero. */
 static const uint64_t LEAST_IN_A_THOUSAND[TALLY_COUNTS] = {
+    [REFUSED_ABSENT_PRICE] = 200, /* 371, 158 */
+    [REFUSED_PRICE_RANGE] = 200, /* 361, 34 */
     [TALLY_UPPER_MARKET_NEGATIVE] = 50,
     [TALLY_LOWER_MARKET_NOT_NEGATIVE] = 50,
     [TALLY_UPPER_ACROSS_ZERO] = 50,
     [TALLY_LOWER_ACROSS_ZERO] = 50,
     [TALLY_FLOORED_MARKET_NEGATIVE] = 50,
     [TALLY_OTHER_BY_PRICE] = 50,
-    [TALLY_MARKET_AROUND_ZERO] = 300, /* 366, 243 */
-    [TALLY_WIDE_AROUND_ZERO] = 100, /* 187, 37 */
-    [TALLY_MARKET_AT_ZERO] = 130, /* 170, 90 */
-    [TALLY_MARKET_BESIDE_ZERO] = 110, /* 172, 53 */
-    [TALLY_UPPER_ACROSS_FROM_MINUS_ONE] = 15, /* 37, 3 */
-    [TALLY_LOWER_ACROSS_FROM_ONE] = 22, /* 41, 10 */
-    [TALLY_REFUSED_BY_PRICE] = 65, /* 92, 50 */
-    [TALLY_REFUSED_AROUND_ZERO] = 12, /* 25, 7 */
+    [TALLY_MARKET_AROUND_ZERO] = 300, /* 332, 222 */
+    [TALLY_WIDE_AROUND_ZERO] = 100, /* 175, 41 */
+    [TALLY_MARKET_AT_ZERO] = 130, /* 170, 95 */
+    [TALLY_MARKET_BESIDE_ZERO] = 110, /* 154, 47 */
+    [TALLY_UPPER_ACROSS_FROM_MINUS_ONE] = 15, /* 34, 3 */
+    [TALLY_LOWER_ACROSS_FROM_ONE] = 22, /* 38, 9 */
+    [TALLY_REFUSED_BY_PRICE] = 65, /* 85, 47 */
+    [TALLY_REFUSED_AROUND_ZERO] = 12, /* 26, 8 */
     [TALLY_TICKS_ADDED] = 50,
     [TALLY_QUOTES_REPEATED] = 50,
     [TALLY_HELD_QUOTES_REPEATED] = 50,
@@ -93,6 +97,78 @@ static const uint64_t LEAST_IN_A_THOUSAND[TALLY_COUNTS] = {
     [TALLY_ADDED_AFTER_REFUSED] = 50,
     [TALLY_OTHER_REFUSAL] = 50,
 };
+
+/* The same for every count of a group. Behind it, of the rarest one: about how many do, and how many would without a step
+   of generate.c, so that demands of the group would fail then. */
+static const struct { int first; int members; uint64_t least; } GROUPS[] = {
+    {TALLY_FIRST_BAD, EDGES, 1}, /* 2, and 0 if refusal 5 were aimed at no more often than others */
+    {TALLY_LAST_GOOD, EDGES, 1}, /* 2, and 0 without bring_to_edge */
+    {TALLY_FIELD_ALONE, FIELDS_AT_FAULT, 2}, /* 4, and 1 if refusal 5 were aimed at no more often than others */
+    {TALLY_FIELD_NOT_ALONE, FIELDS_BEFORE_ANOTHER, 2}, /* 3, and 0 without damage_two_fields */
+    {TALLY_PAIR, REFUSAL_PAIRS, 30}, /* 57, and 9 without spoil_absence, 2 without spoil_range, 0 without a second fault */
+};
+
+static bool in_group(int count, int first, int members)
+{
+    return first <= count && count < first + members;
+}
+
+static uint64_t least_in_a_thousand(int count)
+{
+    for (size_t i = 0; i < sizeof GROUPS / sizeof GROUPS[0]; i++) {
+        if (in_group(count, GROUPS[i].first, GROUPS[i].members)) {
+            return GROUPS[i].least;
+        }
+    }
+    return LEAST_IN_A_THOUSAND[count];
+}
+
+/* Two refusals, the one that is looked for first before the other. */
+static const struct { Refusal first; Refusal other; } PAIR[REFUSAL_PAIRS] = {
+    {REFUSED_EVENT_FORM, REFUSED_ABSENT_PRICE}, {REFUSED_EVENT_FORM, REFUSED_PRICE_RANGE},
+    {REFUSED_EVENT_FORM, REFUSED_AFTER_END}, {REFUSED_EVENT_FORM, REFUSED_BEFORE_CLOCK},
+    {REFUSED_EVENT_FORM, REFUSED_UNKNOWN_ID}, {REFUSED_EVENT_FORM, REFUSED_CROSSED},
+    {REFUSED_ABSENT_PRICE, REFUSED_PRICE_RANGE}, {REFUSED_ABSENT_PRICE, REFUSED_AFTER_END},
+    {REFUSED_ABSENT_PRICE, REFUSED_BEFORE_CLOCK}, {REFUSED_ABSENT_PRICE, REFUSED_UNKNOWN_ID},
+    {REFUSED_PRICE_RANGE, REFUSED_AFTER_END}, {REFUSED_PRICE_RANGE, REFUSED_BEFORE_CLOCK},
+    {REFUSED_PRICE_RANGE, REFUSED_UNKNOWN_ID}, {REFUSED_PRICE_RANGE, REFUSED_CROSSED},
+    {REFUSED_AFTER_END, REFUSED_UNKNOWN_ID}, {REFUSED_AFTER_END, REFUSED_CROSSED},
+    {REFUSED_BEFORE_CLOCK, REFUSED_UNKNOWN_ID}, {REFUSED_BEFORE_CLOCK, REFUSED_CROSSED},
+    {REFUSED_UNKNOWN_ID, REFUSED_CROSSED},
+};
+
+/* The fields that refusal 5 can name are counted by their numbers from 0, in which the id has none, and not by their places
+   in the line. */
+static int place_of(int number)
+{
+    return number < CONTRACT_ID ? number + 1 : number + 2;
+}
+
+static int number_of(int place)
+{
+    return place <= CONTRACT_ID ? place - 1 : place - 2;
+}
+
+/* The name of a count. That of a group's member is put together, and stands until the next one is asked for. */
+static const char *name_of(int count)
+{
+    static char name[64];
+    if (in_group(count, TALLY_FIRST_BAD, EDGES)) {
+        snprintf(name, sizeof name, "first bad: %s", EDGE[count - TALLY_FIRST_BAD].name);
+    } else if (in_group(count, TALLY_LAST_GOOD, EDGES)) {
+        snprintf(name, sizeof name, "last good: %s", EDGE[count - TALLY_LAST_GOOD].name);
+    } else if (in_group(count, TALLY_FIELD_ALONE, FIELDS_AT_FAULT)) {
+        snprintf(name, sizeof name, "field %d alone at fault", place_of(count - TALLY_FIELD_ALONE));
+    } else if (in_group(count, TALLY_FIELD_NOT_ALONE, FIELDS_BEFORE_ANOTHER)) {
+        snprintf(name, sizeof name, "field %d and a later one at fault", place_of(count - TALLY_FIELD_NOT_ALONE));
+    } else if (in_group(count, TALLY_PAIR, REFUSAL_PAIRS)) {
+        snprintf(name, sizeof name, "events up for %d and %d", (int)PAIR[count - TALLY_PAIR].first,
+                 (int)PAIR[count - TALLY_PAIR].other);
+    } else {
+        return NAMES[count];
+    }
+    return name;
+}
 
 static uint64_t frozen_lines(const Session *session)
 {
@@ -144,6 +220,17 @@ static void count_tick(Tally *one, FirstDue due, Seconds now)
     one->times[TALLY_TICK_AFTER_DUE] += now.seconds == due.second.seconds + 1;
 }
 
+static void count_pairs(Tally *one, const Session *session, const uint8_t *bytes, Refusal got)
+{
+    Refusal others[EVENT_REFUSALS];
+    int count = faults_of_event(*session, bytes, got, others);
+    for (int i = 0; i < count; i++) {
+        for (int pair = 0; pair < REFUSAL_PAIRS; pair++) {
+            one->times[TALLY_PAIR + pair] += PAIR[pair].first == got && PAIR[pair].other == others[i];
+        }
+    }
+}
+
 static void count_event(Tally *one, Session *session, const uint8_t *bytes, size_t length)
 {
     EventAnswer answer;
@@ -153,6 +240,9 @@ static void count_event(Tally *one, Session *session, const uint8_t *bytes, size
     one->times[TALLY_CUT_EVENT] += length < EVENT_BYTES;
     if (answer.kind == REFUSED) {
         one->times[answer.reason]++;
+        if (length == EVENT_BYTES) {
+            count_pairs(one, session, bytes, answer.reason);
+        }
         return;
     }
     count_shifts(one, &answer, due, session->clock);
@@ -255,6 +345,8 @@ static void count_near_zero(Tally *one, const Line *opened, const Line *line, co
     one->times[TALLY_REFUSED_BY_PRICE] += refused_by_price(opened, draft_read_field(contract, CONTRACT_WIDTH_SHARE));
 }
 
+/* ---- Refused lines ---- */
+
 /* Whether the line that a table was refused at with 9 has other bounds by the price's sign. By that rule it is refused
    too: only the bound beyond zero is another, which is the nearer one to the price, and it is nearer still. To have its
    numbers, the line is opened alone and with width share 0. */
@@ -262,13 +354,41 @@ static bool refused_around_zero(const Input *input, uint32_t line)
 {
     uint8_t table[LONGEST_TABLE];
     Session session;
-    size_t contracts = draft_read_field(input->table, HEADER_CONTRACTS_OFFSET);
-    memcpy(table, input->table, contracts);
-    memcpy(table + contracts, input->table + contracts + (line - 1) * CONTRACT_BYTES, CONTRACT_BYTES);
-    memset(table + contracts + 4 * CONTRACT_WIDTH_SHARE, 0, 4);
-    table[4 * HEADER_CONTRACT_COUNT] = 1;
-    TableAnswer answer = corridor_open(table, contracts + CONTRACT_BYTES, &session);
+    size_t length = faults_line_alone(input, line, table);
+    memset(table + length - CONTRACT_BYTES + 4 * CONTRACT_WIDTH_SHARE, 0, 4);
+    TableAnswer answer = corridor_open(table, length, &session);
     return answer.kind == ACCEPTED && other_by_price(&session.lines[0], session.lines[0].centre);
+}
+
+static void count_field(Tally *one, const Input *input, const TableAnswer *answer)
+{
+    uint8_t table[LONGEST_TABLE];
+    uint32_t contract[CONTRACT_FIELDS];
+    bool alone = !faults_later_field(input, answer);
+    draft_read_contract(table + faults_line_alone(input, answer->line, table) - CONTRACT_BYTES, contract);
+    one->times[number_of((int)answer->field) + (alone ? TALLY_FIELD_ALONE : TALLY_FIELD_NOT_ALONE)]++;
+    for (int i = 0; i < EDGES; i++) {
+        one->times[TALLY_FIRST_BAD + i] += EDGE[i].field + 1 == answer->field && edge_reached(contract, &EDGE[i], false);
+    }
+}
+
+static void count_refused(Tally *one, const Input *input, const TableAnswer *answer)
+{
+    one->times[answer->reason]++;
+    if (answer->reason == REFUSED_CONTRACT) {
+        count_field(one, input, answer);
+    } else if (answer->reason == REFUSED_LIMITS) {
+        one->times[TALLY_REFUSED_AROUND_ZERO] += refused_around_zero(input, answer->line);
+    }
+}
+
+static void count_edges(Tally *one, const uint8_t *bytes)
+{
+    uint32_t contract[CONTRACT_FIELDS];
+    draft_read_contract(bytes, contract);
+    for (int i = 0; i < EDGES; i++) {
+        one->times[TALLY_LAST_GOOD + i] += edge_reached(contract, &EDGE[i], true);
+    }
 }
 
 Tally tally_input(const Input *input)
@@ -277,9 +397,7 @@ Tally tally_input(const Input *input)
     Session session;
     TableAnswer answer = corridor_open(input->table, input->table_length, &session);
     if (answer.kind == REFUSED) {
-        one.times[answer.reason]++;
-        one.times[TALLY_REFUSED_AROUND_ZERO]
-            += answer.reason == REFUSED_LIMITS && refused_around_zero(input, answer.line);
+        count_refused(&one, input, &answer);
         return one;
     }
     Session opened = session;
@@ -296,6 +414,7 @@ Tally tally_input(const Input *input)
     const uint8_t *contracts = input->table + input->table_length - session.line_count * CONTRACT_BYTES;
     for (uint32_t i = 0; i < session.line_count; i++) {
         count_near_zero(&one, &opened.lines[i], &session.lines[i], contracts + i * CONTRACT_BYTES);
+        count_edges(&one, contracts + i * CONTRACT_BYTES);
     }
     return one;
 }
@@ -312,7 +431,7 @@ void tally_print(const TallyTotal *total, TallyCount first)
 {
     printf("%-36s %10s %10s\n", "", "inputs", "in all");
     for (int i = (int)first; i < TALLY_COUNTS; i++) {
-        printf("%-36s %10" PRIu64 " %10" PRIu64 "\n", NAMES[i], total->inputs[i], total->times[i]);
+        printf("%-36s %10" PRIu64 " %10" PRIu64 "\n", name_of(i), total->inputs[i], total->times[i]);
     }
 }
 
@@ -320,12 +439,12 @@ int tally_enough(const TallyTotal *total, TallyCount first, uint64_t generated, 
 {
     int enough = 0;
     for (int i = (int)first; i < TALLY_COUNTS; i++) {
-        uint64_t share = generated * LEAST_IN_A_THOUSAND[i] / 1000;
-        uint64_t least = share > least_inputs ? share : least_inputs;
+        uint64_t share = least_in_a_thousand(i);
+        uint64_t least = share > 0 ? generated * share / 1000 : least_inputs;
         if (total->inputs[i] >= least) {
             enough++;
         } else {
-            printf("failed: %s: %" PRIu64 " inputs, %" PRIu64 " demanded\n", NAMES[i], total->inputs[i], least);
+            printf("failed: %s: %" PRIu64 " inputs, %" PRIu64 " demanded\n", name_of(i), total->inputs[i], least);
         }
     }
     return enough;

@@ -5,7 +5,16 @@
 #ifndef TALLY_H
 #define TALLY_H
 
+#include "edges.h"
 #include "input.h"
+
+enum {
+    /* The fields of a contract that refusal 5 can name, and those of them that a later one follows. */
+    FIELDS_AT_FAULT = CONTRACT_FIELDS - 1,
+    FIELDS_BEFORE_ANOTHER = FIELDS_AT_FAULT - 1,
+    /* The pairs of refusals that one event can be up for. */
+    REFUSAL_PAIRS = 19
+};
 
 /* What is counted. The refusals stand first, at their own numbers. */
 typedef enum {
@@ -47,9 +56,17 @@ typedef enum {
     TALLY_LOWER_ACROSS_FROM_ONE,
     TALLY_REFUSED_BY_PRICE,
     TALLY_REFUSED_AROUND_ZERO,
+    /* Of each edge that a table was refused with 5 for the first bad value there, or opened with the last good one. */
+    TALLY_FIRST_BAD,
+    TALLY_LAST_GOOD = TALLY_FIRST_BAD + EDGES,
+    /* From here on what refusals have to tell apart: tables refused with 5, of each field that it alone was at fault, and that
+       a later one of its line was too; events that were up for two refusals, by pairs. */
+    TALLY_FIRST_FAULT = TALLY_LAST_GOOD + EDGES,
+    TALLY_FIELD_ALONE = TALLY_FIRST_FAULT,
+    TALLY_FIELD_NOT_ALONE = TALLY_FIELD_ALONE + FIELDS_AT_FAULT,
+    TALLY_PAIR = TALLY_FIELD_NOT_ALONE + FIELDS_BEFORE_ANOTHER,
     /* From here on what free events bring about where they are added to the input (thickened.h). */
-    TALLY_FIRST_ADDED,
-    TALLY_TICKS_ADDED = TALLY_FIRST_ADDED,
+    TALLY_TICKS_ADDED = TALLY_PAIR + REFUSAL_PAIRS,
     TALLY_QUOTES_REPEATED,
     TALLY_HELD_QUOTES_REPEATED,
     TALLY_EMPTY_BOOKS_REPEATED,
@@ -76,8 +93,8 @@ void tally_add(TallyTotal *total, const Tally *one);
 /* Prints all counts from the first on. */
 void tally_print(const TallyTotal *total, TallyCount first);
 
-/* How many of the counts from the first on were brought about by enough inputs: the least number given, and of the generated
-   ones the share that tally.c demands. The others are told. */
+/* How many of the counts from the first on were brought about by enough inputs: by the share of the generated ones that
+   tally.c demands, and where it demands none by the least number given. The others are told. */
 int tally_enough(const TallyTotal *total, TallyCount first, uint64_t generated, uint64_t least_inputs);
 
 #endif
