@@ -4,5 +4,4 @@ pub mod Tables
 pub mod Texts
 pub mod Going
 pub mod HeaderAlone
-pub mod InNumbers
 pub mod WholeInput
