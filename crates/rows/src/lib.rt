@@ -146,7 +146,7 @@ fn closed(c: Closing) -> [i64; 6]
     ]
 }
 
-// A row in six numbers: its kind, and its values in the printed order, with 0 in the places that it leaves free.
+// A row in six numbers: its kind, its values in the printed order and, of a refused event, its place; with 0 where nothing stands.
 pub fn row_numbers(row: Row) -> [i64; 6]
     requires { ⌜ Fits row ⌝ }
     ensures { λ r. ⌜ r ≡ row-numbers row ⌝ }
