@@ -61,7 +61,7 @@ pub fn event_number(why: EventReason) -> i64
     }
 }
 
-pub fn table_number(why: TableReason) -> i64
+fn table_number(why: TableReason) -> i64
     ensures { λ r. ⌜ r ≡ pos (table-number why) ⌝ }
 {
     match why {
@@ -95,7 +95,7 @@ fn field_place(f: Field) -> i64
 }
 
 // That of the field at fault, and 0 where no field is named.
-pub fn field_number(why: TableReason) -> i64
+fn field_number(why: TableReason) -> i64
     ensures { λ r. ⌜ r ≡ pos (field-number why) ⌝ }
 {
     match why {
