@@ -1,5 +1,5 @@
 -- A contract's fields: each is good exactly where it is in its range, and the first that is not is the one that is named. Assumes nothing.
-use mathlib.Core.Path.{_≡_, refl, ap}
+use mathlib.Core.Path.{_≡_, refl, sym, ap, _∙_}
 use mathlib.Core.Bool.{Bool, true, false, _||_, cond}
 use mathlib.Core.List.{List, [], _∷_, _++_}
 use Prim.Native.Nat.{ℕ}
@@ -7,7 +7,7 @@ use native.Mathlib.Omega.{arith}
 use lib.IntN.{pos}
 use borrow.Author.Tests.{leb-true, ltb-true, le-leb, lt-ltb}
 use Rattle.numbers.proofs.Tests.{both, both-true, le-true, true-le, in-range-true, range-in, between-true, span-in, in-span-true, within-in}
-use Rattle.method.specs.words.Types.{Contract, Line, Field, TableReason}
+use Rattle.method.specs.words.Types.{Contract, Field, TableReason}
 use Rattle.method.specs.words.Ranges.{whole, most-days, largest-price, permits-negative, FieldIn, ContractIn, contract-fields, Every}
 use Rattle.method.specs.computed.Types.{FieldsAnswer, LineAnswer}
 use Rattle.method.specs.computed.Opening.{field-good, first-bad, fields-answer, if-fields-good}
@@ -102,23 +102,25 @@ module _ (c : Contract) where
       → fields-answer c ≡ FieldsAnswer.Bad f
   first-named before f rest e r n = rw e (first-is before f rest r n)
 
-  -- what holds of a contract in its ranges, and of the first field that is not, holds of the choice between them
+  -- a contract is in its ranges, or has a first field that is not
+  pub by-first : {A : Type 0} → (ContractIn c → A)
+      → ((before : List Field) (f : Field) (rest : List Field) → contract-fields ≡ before ++ f ∷ rest → Good before → (FieldIn f c → ⊥) → A) → A
+  by-first {A} good bad = go (fields-answered contract-fields)
+    where
+      go : {a : FieldsAnswer} → FieldsAnswered contract-fields a → A
+      go (fields-good r) = good (each-field r)
+      go (field-bad before f rest e r n) = bad before f rest e r n
+
+  -- what holds of both answers holds of the choice between them
   pub by-fields : (P : LineAnswer → Type 0) {onward : LineAnswer} → (ContractIn c → P onward)
       → ((before : List Field) (f : Field) (rest : List Field) → contract-fields ≡ before ++ f ∷ rest → Good before → (FieldIn f c → ⊥)
       → P (LineAnswer.Refused (TableReason.Field f)))
       → P (if-fields-good (fields-answer c) onward)
-  by-fields P {onward} good bad = go (fields-answered contract-fields)
-    where
-      go : {a : FieldsAnswer} → FieldsAnswered contract-fields a → P (if-fields-good a onward)
-      go (fields-good r) = good (each-field r)
-      go (field-bad before f rest e r n) = bad before f rest e r n
+  by-fields P good bad =
+      by-first (λ q. rw (contract-test q) (good q)) (λ before f rest e r n. rw (first-named before f rest e r n) (bad before f rest e r n))
 
   not-bad : {f : Field} → FieldsAnswer.Bad f ≡ FieldsAnswer.Good → ⊥
   not-bad e = let z : _≡_ {A = ℕ} 0 1 = cc in omega arith
 
   pub contract-in : fields-answer c ≡ FieldsAnswer.Good → ContractIn c
-  contract-in e = go (fields-answered contract-fields) e
-    where
-      go : {a : FieldsAnswer} → FieldsAnswered contract-fields a → a ≡ FieldsAnswer.Good → ContractIn c
-      go (fields-good r) q = each-field r
-      go (field-bad before f rest p r n) q = absurd (not-bad q)
+  contract-in e = by-first (λ q. q) (λ before f rest p r n. absurd (not-bad (sym (first-named before f rest p r n) ∙ e)))

@@ -35,6 +35,7 @@ pub mod OneStep
 pub mod OneSession
 pub mod Moments
 pub mod Computed
+pub mod Parted
 pub mod Rule1
 pub mod Rule2
 pub mod Rule3
