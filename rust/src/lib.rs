@@ -26,15 +26,94 @@ mod library;
 use std::error::Error;
 use std::fmt;
 
-/// Why something is refused, by the numbers of the method.
+/// A field of a contract's line in the table. The id is not among them, since it has a refusal of its own.
 #[derive(Clone, Copy, Debug, PartialEq, Eq, Hash)]
 #[repr(u8)]
+pub enum Field {
+    Price = 1,
+    Spot,
+    Least,
+    Rate1,
+    Rate2,
+    Rate3,
+    Width,
+    Days,
+    Flags = 10,
+}
+
+impl Field {
+    const ALL: [Field; 9] = [
+        Field::Price,
+        Field::Spot,
+        Field::Least,
+        Field::Rate1,
+        Field::Rate2,
+        Field::Rate3,
+        Field::Width,
+        Field::Days,
+        Field::Flags,
+    ];
+
+    /// Its place in the line, 1 to 10 without 9, which is the id's.
+    pub fn place(self) -> u8 {
+        self as u8
+    }
+
+    fn of(place: i64) -> Option<Field> {
+        Field::ALL.into_iter().find(|field| i64::from(field.place()) == place)
+    }
+
+    /// The value that stands in a contract's bytes.
+    fn value(self, contract: &[u8]) -> i64 {
+        let value = word(contract, 4 * usize::from(self.place() - 1));
+        match self {
+            Field::Price | Field::Spot => i64::from(value as i32),
+            _ => i64::from(value),
+        }
+    }
+
+    /// From where to where it may be, beside the contract's other fields. The rate before a later one is in its own range, since the
+    /// engine names the first field at fault.
+    fn range(self, contract: &[u8]) -> Bounds {
+        let (lower, upper) = match self {
+            Field::Price if Field::Flags.value(contract) % 2 == 0 => (1, 100_000_000),
+            Field::Price | Field::Spot => (-100_000_000, 100_000_000),
+            Field::Least => (1, 100_000_000),
+            Field::Rate1 => (1, 1_000_000),
+            Field::Rate2 => (Field::Rate1.value(contract), 1_000_000),
+            Field::Rate3 => (Field::Rate2.value(contract), 1_000_000),
+            Field::Width => (0, 1_000_000),
+            Field::Days => (0, 3_650),
+            Field::Flags => (0, 3),
+        };
+        Bounds { lower, upper }
+    }
+}
+
+impl fmt::Display for Field {
+    fn fmt(&self, f: &mut fmt::Formatter<'_>) -> fmt::Result {
+        f.write_str(match self {
+            Field::Price => "settlement price",
+            Field::Spot => "spot",
+            Field::Least => "least price",
+            Field::Rate1 => "rate of level 1",
+            Field::Rate2 => "rate of level 2",
+            Field::Rate3 => "rate of level 3",
+            Field::Width => "width share",
+            Field::Days => "days left",
+            Field::Flags => "flags",
+        })
+    }
+}
+
+/// Why something is refused, by the numbers of the method.
+#[derive(Clone, Copy, Debug, PartialEq, Eq, Hash)]
 pub enum Refusal {
-    Length = 1,
+    Length,
     Edition,
     Header,
     Key,
-    Field,
+    Field { field: Field },
     Id,
     Exponent,
     HalfMove,
@@ -44,34 +123,54 @@ pub enum Refusal {
     Malformed,
     UnknownId,
     Crossed,
+    AbsentNotZero,
+    PriceOutOfRange,
 }
 
 impl Refusal {
-    const ALL: [Refusal; 14] = [
-        Refusal::Length,
-        Refusal::Edition,
-        Refusal::Header,
-        Refusal::Key,
-        Refusal::Field,
-        Refusal::Id,
-        Refusal::Exponent,
-        Refusal::HalfMove,
-        Refusal::Corridor,
-        Refusal::AfterEnd,
-        Refusal::BeforeClock,
-        Refusal::Malformed,
-        Refusal::UnknownId,
-        Refusal::Crossed,
-    ];
-
-    /// The number of the refusal, 1 to 14.
+    /// The number of the refusal, 1 to 16.
     pub fn number(self) -> u8 {
-        self as u8
+        match self {
+            Refusal::Length => 1,
+            Refusal::Edition => 2,
+            Refusal::Header => 3,
+            Refusal::Key => 4,
+            Refusal::Field { .. } => 5,
+            Refusal::Id => 6,
+            Refusal::Exponent => 7,
+            Refusal::HalfMove => 8,
+            Refusal::Corridor => 9,
+            Refusal::AfterEnd => 10,
+            Refusal::BeforeClock => 11,
+            Refusal::Malformed => 12,
+            Refusal::UnknownId => 13,
+            Refusal::Crossed => 14,
+            Refusal::AbsentNotZero => 15,
+            Refusal::PriceOutOfRange => 16,
+        }
     }
 
-    fn of(number: i64) -> Option<Refusal> {
-        let place = usize::try_from(number).ok()?.checked_sub(1)?;
-        Refusal::ALL.get(place).copied()
+    /// The refusal of a number, and of a field's place where the number is 5.
+    fn of(number: i64, field: i64) -> Option<Refusal> {
+        Some(match number {
+            1 => Refusal::Length,
+            2 => Refusal::Edition,
+            3 => Refusal::Header,
+            4 => Refusal::Key,
+            5 => Refusal::Field { field: Field::of(field)? },
+            6 => Refusal::Id,
+            7 => Refusal::Exponent,
+            8 => Refusal::HalfMove,
+            9 => Refusal::Corridor,
+            10 => Refusal::AfterEnd,
+            11 => Refusal::BeforeClock,
+            12 => Refusal::Malformed,
+            13 => Refusal::UnknownId,
+            14 => Refusal::Crossed,
+            15 => Refusal::AbsentNotZero,
+            16 => Refusal::PriceOutOfRange,
+            _ => return None,
+        })
     }
 }
 
@@ -82,7 +181,7 @@ impl fmt::Display for Refusal {
             Refusal::Edition => "the table's edition is not known",
             Refusal::Header => "a field of the table's header is out of range",
             Refusal::Key => "a growth key is out of range or out of order",
-            Refusal::Field => "a field of a contract is out of range",
+            Refusal::Field { field } => return write!(f, "a field of a contract is out of range: {field}"),
             Refusal::Id => "a contract's id is 0 or used on an earlier line",
             Refusal::Exponent => "a contract's exponent is beyond its cap",
             Refusal::HalfMove => "a contract's half-move is 0",
@@ -92,25 +191,69 @@ impl fmt::Display for Refusal {
             Refusal::Malformed => "the bytes are no event",
             Refusal::UnknownId => "no contract has this id",
             Refusal::Crossed => "the quote's bid is above its ask",
+            Refusal::AbsentNotZero => "an absent price of the quote is not 0",
+            Refusal::PriceOutOfRange => "a price of the quote is out of range",
         })
     }
 }
 
 impl Error for Refusal {}
 
-/// A table that was refused, with the line at fault: counted from 1, 0 for the header.
+/// What stands in a field at fault, and the lowest and the highest value that may stand there.
+#[derive(Clone, Copy, Debug, PartialEq, Eq)]
+pub struct Fault {
+    pub value: i64,
+    pub range: Bounds,
+}
+
+/// A table that was refused, with the line at fault: counted from 1, 0 for the header. Where the refusal names a field, `fault` says
+/// what stands in it.
+///
+/// ```
+/// use sundewcup::{Bounds, Fault, Field, Refusal, Session};
+///
+/// let input = std::fs::read(concat!(env!("CARGO_MANIFEST_DIR"), "/../examples/starred"))?;
+/// let mut table = input[..88].to_vec();
+/// table[72..76].copy_from_slice(&1_200_000u32.to_le_bytes());
+/// let refused = Session::open(&table).unwrap_err();
+/// assert_eq!(refused.to_string(), "line 1, width share: 1,200,000 is not within 0 to 1,000,000 (refusal 5)");
+/// assert_eq!(refused.refusal, Refusal::Field { field: Field::Width });
+/// assert_eq!(refused.fault, Some(Fault { value: 1_200_000, range: Bounds { lower: 0, upper: 1_000_000 } }));
+/// # Ok::<(), std::io::Error>(())
+/// ```
 #[derive(Clone, Copy, Debug, PartialEq, Eq)]
 pub struct RefusedTable {
     pub refusal: Refusal,
     pub line: u32,
+    pub fault: Option<Fault>,
+}
+
+impl RefusedTable {
+    /// A field is named only where the table is as long as its header says, so that the line lies in it. Contracts have 40 bytes, and
+    /// stand behind the header, of 40 too, and the keys, of 8.
+    fn of(refusal: Refusal, line: u32, table: &[u8]) -> RefusedTable {
+        let fault = match refusal {
+            Refusal::Field { field } => {
+                let contract = &table[40 + 8 * word(table, 12) as usize + 40 * (line as usize - 1)..];
+                Some(Fault { value: field.value(contract), range: field.range(contract) })
+            }
+            _ => None,
+        };
+        RefusedTable { refusal, line, fault }
+    }
 }
 
 impl fmt::Display for RefusedTable {
     fn fmt(&self, f: &mut fmt::Formatter<'_>) -> fmt::Result {
-        match self.line {
-            0 => write!(f, "header: {} (refusal {})", self.refusal, self.refusal.number()),
-            line => write!(f, "line {line}: {} (refusal {})", self.refusal, self.refusal.number()),
+        match (self.line, self.refusal, self.fault) {
+            (line, Refusal::Field { field }, Some(Fault { value, range: Bounds { lower, upper } })) => {
+                let [value, lower, upper] = [value, lower, upper].map(grouped);
+                write!(f, "line {line}, {field}: {value} is not within {lower} to {upper}")?;
+            }
+            (0, refusal, _) => write!(f, "header: {refusal}")?,
+            (line, refusal, _) => write!(f, "line {line}: {refusal}")?,
         }
+        write!(f, " (refusal {})", self.refusal.number())
     }
 }
 
@@ -261,9 +404,19 @@ pub struct Session {
     numbers: Box<[u64; library::SESSION_NUMBERS]>,
 }
 
+const ANOTHER_LIBRARY: &str = "another library than this package was written for";
+
 /// Memory of another size than the linked library's would be read and written past its end.
 fn demand_same_library() {
-    assert_eq!(library::session_numbers(), library::SESSION_NUMBERS, "another library than this package was written for");
+    assert_eq!(library::session_numbers(), library::SESSION_NUMBERS, "{ANOTHER_LIBRARY}");
+}
+
+/// A number that is no refusal's must not pass for an answer.
+fn demand_accepted(number: i64, field: i64) -> Result<(), Refusal> {
+    match number {
+        0 => Ok(()),
+        _ => Err(Refusal::of(number, field).expect(ANOTHER_LIBRARY)),
+    }
 }
 
 impl Session {
@@ -276,10 +429,10 @@ impl Session {
     pub fn open(table: &[u8]) -> Result<Session, RefusedTable> {
         demand_same_library();
         let mut numbers = Box::new([0; library::SESSION_NUMBERS]);
-        let (number, line) = library::open(&mut numbers, table);
-        match Refusal::of(number) {
-            None => Ok(Session { numbers }),
-            Some(refusal) => Err(RefusedTable { refusal, line: small(line) }),
+        let (number, line, field) = library::open(&mut numbers, table);
+        match demand_accepted(number, field) {
+            Ok(()) => Ok(Session { numbers }),
+            Err(refusal) => Err(RefusedTable::of(refusal, small(line), table)),
         }
     }
 
@@ -317,7 +470,8 @@ impl Session {
     pub fn bytes(&mut self, event: &[u8]) -> Result<Answer, Refusal> {
         let mut rows = [0; library::SHIFT_NUMBERS];
         let (number, made) = library::event(&mut self.numbers, event, &mut rows);
-        Refusal::of(number).map_or(Ok(Answer { rows, made }), Err)
+        demand_accepted(number, 0)?;
+        Ok(Answer { rows, made })
     }
 
     /// A buffer of events, 20 bytes each, as if each were handed over in turn: the shifts and the refusals, in their order.
@@ -340,16 +494,15 @@ impl Session {
     /// The limits of a contract, as of the last event's second.
     pub fn limits(&self, id: u32) -> Result<Limits, Refusal> {
         let mut out = [0; 3];
-        match Refusal::of(library::limits(&self.numbers, id, &mut out)) {
-            None => Ok(Limits { lower: out[0], upper: out[1], frozen: out[2] != 0 }),
-            Some(refusal) => Err(refusal),
-        }
+        demand_accepted(library::limits(&self.numbers, id, &mut out), 0)?;
+        Ok(Limits { lower: out[0], upper: out[1], frozen: out[2] != 0 })
     }
 
     /// All that stands on a contract's line, as of the last event's second.
     pub fn report(&self, id: u32) -> Result<Report, Refusal> {
         let mut out = [0; library::REPORT_NUMBERS];
-        Refusal::of(library::report(&self.numbers, id, &mut out)).map_or_else(|| Ok(Report::of(&out)), Err)
+        demand_accepted(library::report(&self.numbers, id, &mut out), 0)?;
+        Ok(Report::of(&out))
     }
 }
 
@@ -362,7 +515,7 @@ impl fmt::Debug for Session {
 fn told(row: &[i64]) -> Result<Shift, Refusal> {
     match row[0] {
         1 => Ok(Shift { second: small(row[1]), side: if row[2] == 0 { Side::Up } else { Side::Down }, id: small(row[3]) }),
-        _ => Err(Refusal::of(row[1]).unwrap_or(Refusal::Malformed)),
+        _ => Err(Refusal::of(row[1], 0).expect(ANOTHER_LIBRARY)),
     }
 }
 
@@ -371,18 +524,81 @@ fn small(number: i64) -> u32 {
     u32::try_from(number).expect("a number of 32 bits")
 }
 
+/// The field of four bytes from there on, the lowest first.
+fn word(bytes: &[u8], at: usize) -> u32 {
+    u32::from_le_bytes(bytes[at..at + 4].try_into().expect("four bytes"))
+}
+
+/// A number as people read it, with a comma before each three digits.
+fn grouped(number: i64) -> String {
+    match number / 1_000 {
+        0 => number.to_string(),
+        thousands => format!("{},{:03}", grouped(thousands), (number % 1_000).abs()),
+    }
+}
+
 #[cfg(test)]
 mod tests {
     use super::*;
 
     #[test]
     fn numbers_are_the_papers() {
-        for (place, refusal) in Refusal::ALL.into_iter().enumerate() {
-            assert_eq!(usize::from(refusal.number()), place + 1);
-            assert_eq!(Refusal::of(i64::from(refusal.number())), Some(refusal));
+        let refusals = [
+            Refusal::Length,
+            Refusal::Edition,
+            Refusal::Header,
+            Refusal::Key,
+            Refusal::Field { field: Field::Width },
+            Refusal::Id,
+            Refusal::Exponent,
+            Refusal::HalfMove,
+            Refusal::Corridor,
+            Refusal::AfterEnd,
+            Refusal::BeforeClock,
+            Refusal::Malformed,
+            Refusal::UnknownId,
+            Refusal::Crossed,
+            Refusal::AbsentNotZero,
+            Refusal::PriceOutOfRange,
+        ];
+        for (refusal, number) in refusals.into_iter().zip(1..=16) {
+            assert_eq!(refusal.number(), number);
+            assert_eq!(Refusal::of(i64::from(number), 7), Some(refusal));
         }
-        assert_eq!(Refusal::of(0), None);
-        assert_eq!(Refusal::of(15), None);
+        for number in [-1, 0, 17, 99] {
+            assert_eq!(Refusal::of(number, 7), None);
+        }
+    }
+
+    #[test]
+    fn places_are_the_papers() {
+        for (field, place) in Field::ALL.into_iter().zip([1, 2, 3, 4, 5, 6, 7, 8, 10]) {
+            assert_eq!(field.place(), place);
+            assert_eq!(Refusal::of(5, i64::from(place)), Some(Refusal::Field { field }));
+        }
+        for place in [-1, 0, 9, 11] {
+            assert_eq!(Refusal::of(5, place), None);
+        }
+        assert_eq!(Refusal::Field { field: Field::Days }.to_string(), "a field of a contract is out of range: days left");
+    }
+
+    #[test]
+    #[should_panic(expected = "another library")]
+    fn a_number_that_is_no_refusal_is_not_accepted() {
+        let _ = demand_accepted(17, 0);
+    }
+
+    #[test]
+    #[should_panic(expected = "another library")]
+    fn a_field_that_is_not_named_is_not_accepted() {
+        let _ = demand_accepted(5, 0);
+    }
+
+    #[test]
+    fn numbers_are_grouped_by_three_digits() {
+        let texts = [0, 7, -12, 999, -999, 1000, -100_000, 1_000_000, i64::MIN].map(grouped);
+        assert_eq!(texts[..5], ["0", "7", "-12", "999", "-999"]);
+        assert_eq!(texts[5..], ["1,000", "-100,000", "1,000,000", "-9,223,372,036,854,775,808"]);
     }
 
     fn example(name: &str) -> Vec<u8> {
@@ -391,8 +607,117 @@ mod tests {
 
     /// The header's counts say where the table ends.
     fn parts(input: &[u8]) -> (&[u8], &[u8]) {
-        let count = |at: usize| u32::from_le_bytes(input[at..at + 4].try_into().expect("four bytes")) as usize;
-        input.split_at(40 + 40 * count(4) + 8 * count(12))
+        input.split_at(40 + 40 * word(input, 4) as usize + 8 * word(input, 12) as usize)
+    }
+
+    /// Values of a contract's fields, each behind its field's place.
+    type Values = [(u8, i64)];
+
+    /// The table of examples/second, its second contract with other values. A negative one is put in as 32-bit two's complement.
+    fn second_with(values: &Values) -> Vec<u8> {
+        let mut table = parts(&example("second")).0.to_vec();
+        for &(place, value) in values {
+            let at = 96 + 4 * usize::from(place - 1);
+            table[at..at + 4].copy_from_slice(&(value as u32).to_le_bytes());
+        }
+        table
+    }
+
+    /// The second contract has price 30, rates 100,000, 200,000 and 300,000, and flags 2, so that bit 0 is clear.
+    #[test]
+    fn a_refused_field_is_named_with_its_value_and_its_range() {
+        use Field::*;
+        let cases: [(&Values, Field, i64, &str); 24] = [
+            (&[(1, 0)], Price, 0, "settlement price: 0 is not within 1 to 100,000,000"),
+            (&[(1, -1_500)], Price, -1_500, "settlement price: -1,500 is not within 1 to 100,000,000"),
+            (&[(1, 100_000_001)], Price, 100_000_001, "settlement price: 100,000,001 is not within 1 to 100,000,000"),
+            (&[(1, -1), (10, 4)], Price, -1, "settlement price: -1 is not within 1 to 100,000,000"),
+            (
+                &[(1, -100_000_001), (10, 3)],
+                Price,
+                -100_000_001,
+                "settlement price: -100,000,001 is not within -100,000,000 to 100,000,000",
+            ),
+            (
+                &[(1, 100_000_001), (10, 5)],
+                Price,
+                100_000_001,
+                "settlement price: 100,000,001 is not within -100,000,000 to 100,000,000",
+            ),
+            (&[(2, 100_000_001)], Spot, 100_000_001, "spot: 100,000,001 is not within -100,000,000 to 100,000,000"),
+            (&[(2, -100_000_001)], Spot, -100_000_001, "spot: -100,000,001 is not within -100,000,000 to 100,000,000"),
+            (&[(3, 0)], Least, 0, "least price: 0 is not within 1 to 100,000,000"),
+            (&[(3, -1)], Least, 4_294_967_295, "least price: 4,294,967,295 is not within 1 to 100,000,000"),
+            (&[(4, 0)], Rate1, 0, "rate of level 1: 0 is not within 1 to 1,000,000"),
+            (&[(4, 1_000_001)], Rate1, 1_000_001, "rate of level 1: 1,000,001 is not within 1 to 1,000,000"),
+            (&[(4, 300_000)], Rate2, 200_000, "rate of level 2: 200,000 is not within 300,000 to 1,000,000"),
+            (&[(5, 0)], Rate2, 0, "rate of level 2: 0 is not within 100,000 to 1,000,000"),
+            (&[(5, 1_000_001)], Rate2, 1_000_001, "rate of level 2: 1,000,001 is not within 100,000 to 1,000,000"),
+            (&[(5, 300_001)], Rate3, 300_000, "rate of level 3: 300,000 is not within 300,001 to 1,000,000"),
+            (&[(6, 199_999)], Rate3, 199_999, "rate of level 3: 199,999 is not within 200,000 to 1,000,000"),
+            (&[(6, 1_000_001)], Rate3, 1_000_001, "rate of level 3: 1,000,001 is not within 200,000 to 1,000,000"),
+            (&[(7, 1_200_000)], Width, 1_200_000, "width share: 1,200,000 is not within 0 to 1,000,000"),
+            (&[(7, -1)], Width, 4_294_967_295, "width share: 4,294,967,295 is not within 0 to 1,000,000"),
+            (&[(8, 3_651)], Days, 3_651, "days left: 3,651 is not within 0 to 3,650"),
+            (&[(10, 4)], Flags, 4, "flags: 4 is not within 0 to 3"),
+            (&[(10, 5)], Flags, 5, "flags: 5 is not within 0 to 3"),
+            (
+                &[(7, 1_000_001), (8, 3_651), (9, 0)],
+                Width,
+                1_000_001,
+                "width share: 1,000,001 is not within 0 to 1,000,000",
+            ),
+        ];
+        for (values, field, value, message) in cases {
+            let refused = Session::open(&second_with(values)).unwrap_err();
+            let Some(Fault { value: found, range }) = refused.fault else { panic!("no fault: {refused}") };
+            assert_eq!((refused.refusal, refused.line, found), (Refusal::Field { field }, 2, value));
+            assert_eq!(refused.to_string(), format!("line 2, {message} (refusal 5)"));
+            // The engine knows the same range: it finds no fault in either end of it, and one in the next value beyond.
+            let at_fault = |value| {
+                let table = second_with(&[values, &[(field.place(), value)]].concat());
+                Session::open(&table).is_err_and(|refused| refused.refusal == Refusal::Field { field })
+            };
+            assert!(!at_fault(range.lower) && !at_fault(range.upper), "{message}");
+            assert!(at_fault(range.lower - 1) && at_fault(range.upper + 1), "{message}");
+        }
+    }
+
+    #[test]
+    fn a_field_that_depends_on_another_passes_beside_it() {
+        let all: [&Values; 5] = [&[(1, 1)], &[(1, 0), (10, 3)], &[(1, -1), (10, 3)], &[(5, 100_000)], &[(6, 200_000)]];
+        for values in all {
+            assert!(Session::open(&second_with(values)).is_ok(), "{values:?}");
+        }
+    }
+
+    #[test]
+    fn a_refused_field_is_read_from_its_own_line() {
+        let input = example("starred");
+        let (start, contract) = parts(&input).0.split_at(48);
+        let mut table = start.to_vec();
+        table[4] = 20;
+        for id in 1..=20 {
+            table.extend(contract);
+            let at = table.len() - 8;
+            table[at] = id;
+        }
+        let width = 48 + 40 * 18 + 24;
+        table[width..width + 4].copy_from_slice(&1_200_000u32.to_le_bytes());
+        let refused = Session::open(&table).unwrap_err();
+        assert_eq!(refused.to_string(), "line 19, width share: 1,200,000 is not within 0 to 1,000,000 (refusal 5)");
+    }
+
+    #[test]
+    fn another_refusal_has_no_fault() {
+        for (values, message) in [
+            (&[(9, 21)][..], "line 2: a contract's id is 0 or used on an earlier line (refusal 6)"),
+            (&[(2, 1), (4, 1)], "line 2: a contract's half-move is 0 (refusal 8)"),
+        ] {
+            let refused = Session::open(&second_with(values)).unwrap_err();
+            assert_eq!(refused.to_string(), message);
+            assert_eq!(refused.fault, None);
+        }
     }
 
     #[test]
@@ -415,6 +740,25 @@ mod tests {
     }
 
     #[test]
+    fn a_quote_is_refused_for_an_absent_price_and_for_its_range() {
+        let mut session = Session::open(parts(&example("starred")).0).expect("a good table");
+        let quote = |bid, ask| Event::Quote { time: 1, id: 7, bid, ask };
+        for (bid, ask) in [(None, Some(2_000_000_001)), (Some(-2_000_000_001), None), (Some(i32::MAX), Some(0))] {
+            assert_eq!(session.event(quote(bid, ask)).unwrap_err(), Refusal::PriceOutOfRange);
+        }
+        assert!(session.event(quote(Some(-2_000_000_000), Some(2_000_000_000))).is_ok());
+        // An absent price comes first where both are wrong.
+        for (event, at) in [(quote(None, Some(1000)), 12), (quote(None, None), 16), (quote(Some(i32::MAX), None), 16)] {
+            let mut bytes = event.to_bytes();
+            bytes[at] = 1;
+            assert_eq!(session.bytes(&bytes).unwrap_err(), Refusal::AbsentNotZero);
+        }
+        let mut tick = Event::Tick { time: 1 }.to_bytes();
+        tick[12] = 1;
+        assert_eq!(session.bytes(&tick).unwrap_err(), Refusal::Malformed);
+    }
+
+    #[test]
     fn a_report_says_what_the_other_questions_say() {
         let input = example("starred");
         let (table, events) = parts(&input);
@@ -431,7 +775,7 @@ mod tests {
         let input = example("starred");
         let session = Session::open(parts(&input).0).expect("a good table");
         let mut numbers = session.numbers();
-        assert_eq!(library::open(&mut numbers, &[]), (1, 0));
+        assert_eq!(library::open(&mut numbers, &[]), (1, 0, 0));
         assert_eq!(Session::from_numbers(numbers), Err(Damaged));
     }
 

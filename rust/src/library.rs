@@ -6,7 +6,13 @@ pub const SHIFT_NUMBERS: usize = 96;
 pub const REPORT_NUMBERS: usize = 24;
 
 extern "C" {
-    fn sundewcup_open(session: *mut [u64; SESSION_NUMBERS], table: *const u8, length: usize, line: *mut i64) -> i64;
+    fn sundewcup_open(
+        session: *mut [u64; SESSION_NUMBERS],
+        table: *const u8,
+        length: usize,
+        line: *mut i64,
+        field: *mut i64,
+    ) -> i64;
     fn sundewcup_event_unchecked(
         session: *mut [u64; SESSION_NUMBERS],
         event: *const u8,
@@ -28,12 +34,14 @@ extern "C" {
     fn sundewcup_session_numbers() -> usize;
 }
 
-/// The number of the refusal or 0, and its line. After a refusal the numbers are no session, and only `check` and `open` may take them.
-pub fn open(session: &mut [u64; SESSION_NUMBERS], table: &[u8]) -> (i64, i64) {
+/// The number of the refusal or 0, its line, and the place of its field or 0. After a refusal the numbers are no session, and only
+/// `check` and `open` may take them.
+pub fn open(session: &mut [u64; SESSION_NUMBERS], table: &[u8]) -> (i64, i64, i64) {
     let mut line = 0;
+    let mut field = 0;
     // SAFETY: the pointers come from references that live through the call and do not overlap; any numbers may stand in the session.
-    let number = unsafe { sundewcup_open(session, table.as_ptr(), table.len(), &mut line) };
-    (number, line)
+    let number = unsafe { sundewcup_open(session, table.as_ptr(), table.len(), &mut line, &mut field) };
+    (number, line, field)
 }
 
 /// The number of the refusal or 0, and how many shift rows were written. The session is one that `open` opened or `check` found sound.
