@@ -304,6 +304,27 @@ pub struct Shift {
     pub id: u32,
 }
 
+impl Shift {
+    fn of(row: &[i64]) -> Shift {
+        Shift { second: small(row[1]), side: if row[2] == 0 { Side::Up } else { Side::Down }, id: small(row[3]) }
+    }
+}
+
+/// An event of a buffer that was refused, and which one of that buffer it was: counted from 1, with those that were accepted.
+#[derive(Clone, Copy, Debug, PartialEq, Eq)]
+pub struct RefusedEvent {
+    pub refusal: Refusal,
+    pub event: usize,
+}
+
+impl fmt::Display for RefusedEvent {
+    fn fmt(&self, f: &mut fmt::Formatter<'_>) -> fmt::Result {
+        write!(f, "event {}: {} (refusal {})", self.event, self.refusal, self.refusal.number())
+    }
+}
+
+impl Error for RefusedEvent {}
+
 /// The answer to an accepted event: its shifts, in the order in which they were made.
 #[derive(Clone, Debug)]
 pub struct Answer {
@@ -313,11 +334,7 @@ pub struct Answer {
 
 impl Answer {
     pub fn shifts(&self) -> impl Iterator<Item = Shift> + '_ {
-        self.rows.chunks_exact(6).take(self.made).map(|row| Shift {
-            second: small(row[1]),
-            side: if row[2] == 0 { Side::Up } else { Side::Down },
-            id: small(row[3]),
-        })
+        self.rows.chunks_exact(6).take(self.made).map(Shift::of)
     }
 }
 
@@ -474,8 +491,20 @@ impl Session {
         Ok(Answer { rows, made })
     }
 
-    /// A buffer of events, 20 bytes each, as if each were handed over in turn: the shifts and the refusals, in their order.
-    pub fn feed(&mut self, events: &[u8]) -> Vec<Result<Shift, Refusal>> {
+    /// A buffer of events, 20 bytes each, as if each were handed over in turn: the shifts and the refusals, in their order. A refusal
+    /// says which event of this buffer it was, counted from 1; each buffer counts anew.
+    ///
+    /// ```
+    /// # let input = std::fs::read(concat!(env!("CARGO_MANIFEST_DIR"), "/../examples/starred"))?;
+    /// use sundewcup::{Event, Refusal, RefusedEvent, Session};
+    /// let mut session = Session::open(&input[..88])?;
+    /// let events = [30, 20, 40].map(|time| Event::Tick { time }.to_bytes()).concat();
+    /// let refused = RefusedEvent { refusal: Refusal::BeforeClock, event: 2 };
+    /// assert_eq!(session.feed(&events), [Err(refused)]);
+    /// assert_eq!(refused.to_string(), "event 2: the event's time is before the clock (refusal 11)");
+    /// # Ok::<(), Box<dyn std::error::Error>>(())
+    /// ```
+    pub fn feed(&mut self, events: &[u8]) -> Vec<Result<Shift, RefusedEvent>> {
         let mut out = vec![0; 6 * (events.len().div_ceil(20) + 16)];
         let written = library::feed(&mut self.numbers, events, &mut out);
         out[..written].chunks_exact(6).map(told).collect()
@@ -512,10 +541,10 @@ impl fmt::Debug for Session {
     }
 }
 
-fn told(row: &[i64]) -> Result<Shift, Refusal> {
+fn told(row: &[i64]) -> Result<Shift, RefusedEvent> {
     match row[0] {
-        1 => Ok(Shift { second: small(row[1]), side: if row[2] == 0 { Side::Up } else { Side::Down }, id: small(row[3]) }),
-        _ => Err(Refusal::of(row[1], 0).expect(ANOTHER_LIBRARY)),
+        1 => Ok(Shift::of(row)),
+        _ => Err(RefusedEvent { refusal: Refusal::of(row[1], 0).expect(ANOTHER_LIBRARY), event: row[2] as usize }),
     }
 }
 
@@ -728,15 +757,42 @@ mod tests {
             let mut one = Session::open(table).expect("a good table");
             let mut other = one.clone();
             let mut answers = Vec::new();
-            for bytes in events.chunks(20) {
+            for (bytes, event) in events.chunks(20).zip(1..) {
                 match one.bytes(bytes) {
                     Ok(answer) => answers.extend(answer.shifts().map(Ok)),
-                    Err(refusal) => answers.push(Err(refusal)),
+                    Err(refusal) => answers.push(Err(RefusedEvent { refusal, event })),
                 }
             }
             assert_eq!(answers, other.feed(events));
             assert_eq!(one, other);
         }
+    }
+
+    #[test]
+    fn a_refusal_in_a_buffer_says_which_event_it_was() {
+        let mut session = Session::open(parts(&example("starred")).0).expect("a good table");
+        let quote = |time, id, bid, ask| Event::Quote { time, id, bid, ask }.to_bytes();
+        let tick = |time| Event::Tick { time }.to_bytes();
+        let events = [
+            quote(10, 7, Some(1046), None),
+            quote(20, 8, Some(1046), None),
+            tick(70),
+            tick(69),
+            quote(80, 7, Some(1001), Some(1000)),
+            quote(90, 7, None, None),
+            tick(1001),
+        ];
+        let refused = |refusal, event| Err(RefusedEvent { refusal, event });
+        let told = [
+            refused(Refusal::UnknownId, 2),
+            Ok(Shift { second: 70, side: Side::Up, id: 7 }),
+            refused(Refusal::BeforeClock, 4),
+            refused(Refusal::Crossed, 5),
+            refused(Refusal::AfterEnd, 7),
+            refused(Refusal::Malformed, 8),
+        ];
+        assert_eq!(session.feed(&[&events.concat()[..], &[0; 19]].concat()), told);
+        assert_eq!(session.feed(&tick(89)), [refused(Refusal::BeforeClock, 1)]);
     }
 
     #[test]
