@@ -17,6 +17,18 @@ static size_t read_table(FILE *file, uint8_t table[1448])
     return length + fread(table + length, 1, rest, file);
 }
 
+/* A field is named with 5 alone. The id has a refusal of its own, so its place is never named. */
+static void tell_refused(long long refused, long long line, int64_t field)
+{
+    static const char *const names[] = {"", "settlement price", "spot", "least price", "rate of level 1", "rate of level 2",
+                                        "rate of level 3", "width share", "days left", "id", "flags"};
+    printf("table refused with %lld, line %lld", refused, line);
+    if (field != 0) {
+        printf(", field %lld (%s)", (long long)field, names[field]);
+    }
+    puts("");
+}
+
 static void take_events(FILE *file, sundewcup_session *session)
 {
     uint8_t event[20];
@@ -53,15 +65,15 @@ int main(int count, char **words)
 {
     static sundewcup_session session;
     uint8_t table[1448];
-    int64_t line;
+    int64_t line, field;
     FILE *file = count == 4 ? fopen(words[1], "rb") : NULL;
     if (file == NULL) {
         puts("usage: gate FILE ID PRICE");
         return 2;
     }
-    long long refused = sundewcup_open(&session, table, read_table(file, table), &line);
+    long long refused = sundewcup_open(&session, table, read_table(file, table), &line, &field);
     if (refused != 0) {
-        printf("table refused with %lld, line %lld\n", refused, (long long)line);
+        tell_refused(refused, line, field);
         return 2;
     }
     take_events(file, &session);
