@@ -13,9 +13,9 @@ use Rattle.numbers.specs.Ranges.{Between, Span}
 use Rattle.numbers.proofs.Halves.{zarith, apart, abs-is}
 use Rattle.numbers.proofs.Linear.{≤ℤ-trans}
 use Rattle.numbers.proofs.Rounding.{floor-mono, ceiling-mono}
-use Rattle.numbers.proofs.Tests.{both, lt-false, le-true, in-range-true, between-true, in-span-true}
+use Rattle.numbers.proofs.Tests.{both, lt-false, le-true}
 use Rattle.method.specs.words.Types.{Steps, Millionths, Key, Contract, Line, Field, TableReason}
-use Rattle.method.specs.words.Ranges.{whole, most-days, largest-price, ContractIn}
+use Rattle.method.specs.words.Ranges.{whole, largest-price, ContractIn}
 use Rattle.method.specs.words.Growth.{rate-at, exponent, most-exponent}
 use Rattle.method.specs.words.Opening.{normal-price, half-width, market-of, half-move, terms-of, corridor, fresh-line}
 use Rattle.method.specs.computed.Types.{LineAnswer}

@@ -1,7 +1,6 @@
 -- Refusals that say more than they once did: a theorem for each statement of laws/Parted. Assumes nothing.
 use mathlib.Core.List.{List}
-use Prim.Native.Nat.{ℕ}
-use Rattle.method.specs.words.Types.{Millionths, Key, Contract, Field, TableReason, State}
+use Rattle.method.specs.words.Types.{Millionths, Key, Contract, Field, TableReason}
 use Rattle.method.specs.words.Ranges.{ContractIn}
 use Rattle.method.specs.words.Tables.{Fault}
 use Rattle.method.specs.words.Events.{IsEvent, no-event, absent-not-zero, price-out-of-range}
