@@ -423,9 +423,11 @@ pub struct Session {
 
 const ANOTHER_LIBRARY: &str = "another library than this package was written for";
 
-/// Memory of another size than the linked library's would be read and written past its end.
+/// Memory of another size than the linked library's would be read and written past its end. A library from before the field of a refusal
+/// would name none, and no place of a refused event: it is found out here, and not on the morning of a bad table.
 fn demand_same_library() {
     assert_eq!(library::session_numbers(), library::SESSION_NUMBERS, "{ANOTHER_LIBRARY}");
+    assert_eq!(library::open(&mut [0; library::SESSION_NUMBERS], &[]), (1, 0, 0), "{ANOTHER_LIBRARY}");
 }
 
 /// A number that is no refusal's must not pass for an answer.

@@ -34,11 +34,11 @@ extern "C" {
     fn sundewcup_session_numbers() -> usize;
 }
 
-/// The number of the refusal or 0, its line, and the place of its field or 0. After a refusal the numbers are no session, and only
-/// `check` and `open` may take them.
+/// The number of the refusal or 0, its line, and the place of its field or 0; -1 where the library does not say it. After a refusal the
+/// numbers are no session, and only `check` and `open` may take them.
 pub fn open(session: &mut [u64; SESSION_NUMBERS], table: &[u8]) -> (i64, i64, i64) {
-    let mut line = 0;
-    let mut field = 0;
+    let mut line = -1;
+    let mut field = -1;
     // SAFETY: the pointers come from references that live through the call and do not overlap; any numbers may stand in the session.
     let number = unsafe { sundewcup_open(session, table.as_ptr(), table.len(), &mut line, &mut field) };
     (number, line, field)
