@@ -18,13 +18,13 @@ static size_t read_table(FILE *file, uint8_t table[1448])
 }
 
 /* A field is named with 5 alone. The id has a refusal of its own, so its place is never named. */
-static void tell_refused(long long refused, long long line, int64_t field)
+static void tell_refused(long long refused, long long line, long long field)
 {
     static const char *const names[] = {"", "settlement price", "spot", "least price", "rate of level 1", "rate of level 2",
                                         "rate of level 3", "width share", "days left", "id", "flags"};
     printf("table refused with %lld, line %lld", refused, line);
     if (field != 0) {
-        printf(", field %lld (%s)", (long long)field, names[field]);
+        printf(", field %lld (%s)", field, names[field]);
     }
     puts("");
 }

@@ -7,10 +7,10 @@
  *                                                     (0 up, 1 down), and the contract that called for it
  *   2  number  event 0      0            0            an event that was refused, with its number, 10 to 16, and which
  *                                                     one of `events` it was, counted from 1, accepted ones too
- *   3  number  line  field  0            0            the table was refused, with its number, 1 to 9, the line of the
- *                                                     table (0: the header), and where the number is 5 the place in
- *                                                     that line of the field at fault, 1 to 10 without 9, else 0; no
- *                                                     other row then
+ *   3  number  line  field  0            0            the table was refused, with its number, 1 to 9, the line at fault
+ *                                                     (0: the header; with 4 a growth key, with 5 to 9 a contract, each
+ *                                                     counted from 1), and where the number is 5 the place in that line
+ *                                                     of the field at fault, 1 to 10 without 9, else 0; no other row then
  *   4  id      lower upper  lower bound  upper bound  what stands at the end, a row for each contract in the table's
  *                                                     order: its limits, and its interest bounds, in steps
  *

@@ -33,7 +33,8 @@
  *    3  least price                                         10  flags
  *    4 to 6  rates of levels 1 to 3, also a rate below the one before it
  *
- * 9 is the id, which has refusal 6. An event's refusals are looked for in the order 12, 15, 16, 10, 11, 13, 14.
+ * 9 is the id, which has refusal 6. METHOD.md, 3.3 has the ranges. An event's refusals are looked for in the order 12, 15, 16,
+ * 10, 11, 13, 14.
  *
  * A refused event, 10 to 16, changes nothing: `sundewcup_event` leaves every number of the session as it was, and after
  * `sundewcup_feed` it is the same session, in numbers of the library's own. Prices are in whole minimum steps,
@@ -78,8 +79,9 @@ enum { SUNDEWCUP_BELOW = -1, SUNDEWCUP_INSIDE = 0, SUNDEWCUP_ABOVE = 1 };
 
 /*
  * Opens a session from the bytes of a morning table, of any length and sound or not. The result is 0, or the number of the
- * refusal, 1 to 9; *line is then the line of the table at fault, counted from 1, or 0 for the header, and 0 where nothing is
- * refused. *field is the place in that line of the field at fault where the number is 5, 1 to 10 and never 9, and 0 otherwise.
+ * refusal, 1 to 9; *line is then the line at fault, with 4 of the growth keys and with 5 to 9 of the contracts, each counted
+ * from 1, or 0 for the header, and 0 where nothing is refused. *field is the place in that line of the field at fault where the
+ * number is 5, 1 to 10 and never 9, and 0 otherwise.
  * After a refusal the memory holds no session, whatever it held before: every function that tests it answers 99, or
  * SUNDEWCUP_DAMAGED_COUNT, until a table is opened there, and the two that do not test must not be handed it.
  */
