@@ -34,15 +34,12 @@ shift-text row = line-with (field row 1 ∷ letter (number row 2) ∷ field row 
 abbrev pub refused-event-text : List ℤ → List ℕ
 refused-event-text row = line-with (ascii "R" ∷ field row 1 ∷ [])
 
--- the number and the line; and the field where one is named, which is not 0
-abbrev pub line-at-fault : List ℤ → List ℕ
-line-at-fault row = line-with (ascii "T" ∷ field row 1 ∷ field row 2 ∷ [])
-
-abbrev pub field-at-fault : List ℤ → List ℕ
-field-at-fault row = line-with (ascii "T" ∷ field row 1 ∷ field row 2 ∷ field row 3 ∷ [])
+-- the field at fault, where one is named: its place is not 0
+abbrev pub fault : List ℤ → List (List ℕ)
+fault row = cond (is (number row 3) 0) [] (field row 3 ∷ [])
 
 abbrev pub refused-table-text : List ℤ → List ℕ
-refused-table-text row = cond (is (number row 3) 0) (line-at-fault row) (field-at-fault row)
+refused-table-text row = line-with (ascii "T" ∷ field row 1 ∷ field row 2 ∷ fault row)
 
 abbrev pub closed-text : List ℤ → List ℕ
 closed-text row = line-with (field row 1 ∷ field row 2 ∷ field row 3 ∷ field row 4 ∷ field row 5 ∷ [])

@@ -12,8 +12,6 @@ ghost use Rattle.text.specs.Line.{
   letter as letter-of,
   shift-text,
   refused-event-text,
-  line-at-fault,
-  field-at-fault,
   refused-table-text,
   closed-text,
   numbers-text,
@@ -113,39 +111,20 @@ fn refused_event(row: [i64; 6], buffer: &mut [u8], at: usize) -> usize
     put(buffer, letter, row[1], b'\n')
 }
 
-// A refused table with the line of the table, and with the field in it too.
-fn line_at_fault(row: [i64; 6], buffer: &mut [u8], at: usize) -> usize
-    requires { ⌜ at + 46 ≤ length (now buffer) ⌝ }
-    ensures { λ r. ⌜ Put (now (buffer .entry)) at (line-at-fault row) (now (buffer .exit)) r ⌝ }
-    ensures { λ r. ⌜ r ≤ at + 46 ⌝ }
-{
-    let letter = put_letter(buffer, at, b'T');
-    let number = put(buffer, letter, row[1], b' ');
-    put(buffer, number, row[2], b'\n')
-}
-
-fn field_at_fault(row: [i64; 6], buffer: &mut [u8], at: usize) -> usize
-    requires { ⌜ at + 68 ≤ length (now buffer) ⌝ }
-    ensures { λ r. ⌜ Put (now (buffer .entry)) at (field-at-fault row) (now (buffer .exit)) r ⌝ }
-    ensures { λ r. ⌜ r ≤ at + 68 ⌝ }
-{
-    let letter = put_letter(buffer, at, b'T');
-    let number = put(buffer, letter, row[1], b' ');
-    let line = put(buffer, number, row[2], b' ');
-    put(buffer, line, row[3], b'\n')
-}
-
 // A refused table: the number, the line, and the field where one is named.
 fn refused_table(row: [i64; 6], buffer: &mut [u8], at: usize) -> usize
     requires { ⌜ at + 68 ≤ length (now buffer) ⌝ }
     ensures { λ r. ⌜ Put (now (buffer .entry)) at (refused-table-text row) (now (buffer .exit)) r ⌝ }
     ensures { λ r. ⌜ r ≤ at + 68 ⌝ }
 {
+    let letter = put_letter(buffer, at, b'T');
+    let number = put(buffer, letter, row[1], b' ');
     let field = row[3];
     if field == 0 {
-        return line_at_fault(row, buffer, at);
+        return put(buffer, number, row[2], b'\n');
     }
-    field_at_fault(row, buffer, at)
+    let line = put(buffer, number, row[2], b' ');
+    put(buffer, line, field, b'\n')
 }
 
 // A closing line: the id, both limits, both interest bounds.
