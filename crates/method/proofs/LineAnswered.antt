@@ -69,10 +69,10 @@ module _ (shift : Millionths) (keys : List Key) where
         moves = le-true (pos 1) (t .halfmove .0) e;
         inside = inside-in (t .factors) m k f;
       }))
-      (λ f. line-bad TableReason.Corridor (Fault.limit (a) (fresh-in earlier (c .id) b) (leb-true y most-exponent d) (le-true (pos 1) (t .halfmove .0) e) (denied (inside-bounds (t .factors) m k) (inside-test (t .factors) m k) f))))
-      (λ e. line-bad TableReason.HalfMove (Fault.half-move (a) (fresh-in earlier (c .id) b) (leb-true y most-exponent d) (le-false (pos 1) (t .halfmove .0) e))))
-      (λ d. line-bad TableReason.Exponent (Fault.exponent (a) (fresh-in earlier (c .id) b) (leb-false y most-exponent d))))
-      (λ b. line-bad TableReason.Id (Fault.id (a) (denied (id-good (lines-of earlier) (c .id)) (fresh-test earlier (c .id)) b))))
+      (λ f. line-bad TableReason.Corridor (Fault.limit a (fresh-in earlier (c .id) b) (leb-true y most-exponent d) (le-true (pos 1) (t .halfmove .0) e) (denied (inside-bounds (t .factors) m k) (inside-test (t .factors) m k) f))))
+      (λ e. line-bad TableReason.HalfMove (Fault.half-move a (fresh-in earlier (c .id) b) (leb-true y most-exponent d) (le-false (pos 1) (t .halfmove .0) e))))
+      (λ d. line-bad TableReason.Exponent (Fault.exponent a (fresh-in earlier (c .id) b) (leb-false y most-exponent d))))
+      (λ b. line-bad TableReason.Id (Fault.id a (denied (id-good (lines-of earlier) (c .id)) (fresh-test earlier (c .id)) b))))
       (λ before f rest e r n. line-bad (TableReason.Field f) (Fault.field before f rest e r n))
 
   pub line-opened : (earlier : List Contract) (c : Contract) → Good shift keys earlier c → open-line shift keys (lines-of earlier) c ≡ LineAnswer.Opened (its-line shift keys c)

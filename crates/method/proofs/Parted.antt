@@ -3,7 +3,7 @@ use mathlib.Core.List.{List}
 use Rattle.method.specs.words.Types.{Millionths, Key, Contract, Field, TableReason}
 use Rattle.method.specs.words.Ranges.{ContractIn}
 use Rattle.method.specs.words.Tables.{Fault}
-use Rattle.method.specs.words.Events.{IsEvent, no-event, absent-not-zero, price-out-of-range}
+use Rattle.method.specs.words.Events.{IsEvent, malformed, absent-not-zero, price-out-of-range}
 use Rattle.method.specs.laws.Parted.{FieldParted, RefusedUnread, NoEventParted}
 use Rattle.method.specs.computed.Types.{Event}
 use Rattle.method.proofs.Fields.{by-first}
@@ -23,15 +23,15 @@ pub no-event-parted : NoEventParted
 no-event-parted s b = (unread, λ n. go n (says b))
   where
     unread : RefusedUnread s b → IsEvent b → ⊥
-    unread (RefusedUnread.malformed (no-event n m)) (IsEvent.tick t) = n t
-    unread (RefusedUnread.malformed (no-event n m)) (IsEvent.quote q) = m (q .like)
+    unread (RefusedUnread.malformed (malformed n m)) (IsEvent.tick t) = n t
+    unread (RefusedUnread.malformed (malformed n m)) (IsEvent.quote q) = m (q .like)
     unread (RefusedUnread.absent (absent-not-zero l n)) (IsEvent.tick t) = tick-or-quote b (t .flags) l
     unread (RefusedUnread.absent (absent-not-zero l n)) (IsEvent.quote q) = n (q .absent)
     unread (RefusedUnread.out-of-range (price-out-of-range l a n)) (IsEvent.tick t) = tick-or-quote b (t .flags) l
     unread (RefusedUnread.out-of-range (price-out-of-range l a n)) (IsEvent.quote q) = n (q .prices)
 
     go : (IsEvent b → ⊥) → {e : Event} → Says b e → RefusedUnread s b
-    go n (Says.says-nothing t q) = RefusedUnread.malformed (no-event t q)
+    go n (Says.says-nothing t q) = RefusedUnread.malformed (malformed t q)
     go n (Says.says-absent l a) = RefusedUnread.absent (absent-not-zero l a)
     go n (Says.says-beyond l a p) = RefusedUnread.out-of-range (price-out-of-range l a p)
     go n (Says.says-tick t) = absurd (n (IsEvent.tick t))

@@ -1,4 +1,4 @@
--- Figures of refusal 5 (METHOD 11.6): the place of the field that it names, and 0 where all fields are good; each range from both sides, and of
+-- Figures of refusal 5 (METHOD 11.11): the place of the field that it names, and 0 where all fields are good; each range from both sides, and of
 -- several faults the lowest place (DECISIONS A6).
 use mathlib.Core.List.{List, [], _∷_, map}
 use mathlib.Core.Path.{_≡_, refl}

@@ -8,7 +8,7 @@ use Rattle.method.specs.words.Sessions.{Answer, accepted, refused}
 use Rattle.method.specs.told.Types.{Row}
 use Rattle.method.specs.told.Refusals.{table-number, field-number, event-number}
 
--- ---- the rows of an answer, and of all answers: one for each shift, and one for each refused event, with its place (METHOD 22.4)
+-- ---- the rows of an answer, and of all answers: one for each shift, and one for each refused event, with its place (METHOD 22.4, 22.8)
 -- of the answer to the event at a place
 unfoldable pub rows-of : ℕ → Answer → List Row
 rows-of place (accepted cs) = map Row.Shift cs
@@ -34,7 +34,7 @@ closing-row l =
       upperbound = steps (bound Up (l .terms .factors) (l .market));
     })
 
--- ---- a row in six numbers: its kind, and its values in the printed order, with 0 in the places that it leaves free (METHOD 22.8)
+-- ---- a row in six numbers: its kind, its values in the printed order and, of a refused event, its place; with 0 where nothing stands (METHOD 22.8)
 abbrev pub side-number : Side → ℕ
 side-number Up = 0
 side-number Down = 1

@@ -47,7 +47,7 @@ abbrev pub side-letter : Side → List ℕ
 side-letter Up = ascii "U"
 side-letter Down = ascii "D"
 
--- the place of the field at fault, where one is named
+-- the place of the field at fault, where one is named (METHOD 22.3)
 abbrev pub field-text : ℕ → List (List ℕ)
 field-text zero = []
 field-text (suc n) = decimal (suc n) ∷ []

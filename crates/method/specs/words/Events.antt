@@ -60,7 +60,7 @@ pub record IsCrossed (b : List ℕ) : Type 0 where
 -- ---- the answer to an event in state s: one clause for each way, and together they leave exactly one answer (METHOD 20)
 pub data EventAnswered (s : State) (b : List ℕ) : EventAnswer → Type 0 where
   -- refusal 12
-  no-event : (IsTick b → ⊥) → (QuoteLike b → ⊥) → EventAnswered s b (EventAnswer.Refused EventReason.Malformed)
+  malformed : (IsTick b → ⊥) → (QuoteLike b → ⊥) → EventAnswered s b (EventAnswer.Refused EventReason.Malformed)
   -- 15
   absent-not-zero : QuoteLike b → (AbsentZero b → ⊥) → EventAnswered s b (EventAnswer.Refused EventReason.AbsentNotZero)
   -- 16

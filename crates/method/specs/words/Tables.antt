@@ -1,4 +1,4 @@
--- Which answer a table has (METHOD 11): a session, or a refusal with its line. One clause for each way, over fields and ranges and with none of the
+-- Which answer a table has (METHOD 11): a session, or a refusal with its line, and 5 with its field. One clause for each way, over fields and ranges and with none of the
 -- tests that refuse.
 use mathlib.Core.List.{List, [], _∷_, _++_, map}
 use mathlib.Core.Path.{_≡_}
@@ -67,7 +67,7 @@ module _ (shift : Millionths) (keys : List Key) where
   GoodAll earlier [] = Unit {0}
   GoodAll earlier (c ∷ cs) = Good earlier c × GoodAll (earlier ++ (c ∷ [])) cs
 
-  -- refusals 5 to 9, in this order: each fault where none before it stands, and of the fields the first that is out of its range
+  -- refusals 5 to 9, in this order: each fault where none before it stands, and of the fields the first that is out of its range (METHOD 11.11)
   pub data Fault (earlier : List Contract) (c : Contract) : TableReason → Type 0 where
     field :
         (before : List Field) (f : Field) (rest : List Field) → contract-fields ≡ before ++ f ∷ rest → Every (λ e. FieldIn e c) before → (FieldIn f c → ⊥)
