@@ -8,9 +8,7 @@ use lib.Dec.{ltb, leb, eqb}
 use lib.IntN.{ℤ, pos}
 use lib.ListN.{length}
 use borrow.Author.Tests.{leb-true}
-use Rattle.numbers.specs.Ranges.{Between}
-use Rattle.numbers.specs.Tests.{same}
-use Rattle.numbers.proofs.Tests.{both, in-span-true}
+use Rattle.numbers.specs.Ranges.{Within, Between}
 use Rattle.method.specs.words.Types.{Side, Seconds, Millionths, Line, ShiftLine, State, EventReason, EventAnswer, seconds}
 use Rattle.method.specs.words.Wire.{word, signed, bit}
 use Rattle.method.specs.words.Ranges.{largest-quote}
@@ -18,40 +16,28 @@ use Rattle.method.specs.computed.Types.{Event, Damaged, Tick, Quoted}
 use Rattle.method.specs.computed.Opening.{ids}
 use Rattle.method.specs.computed.Judge.{judge-line}
 use Rattle.method.specs.computed.Shift.{moved-line, shift-line, shifted, onward, after}
-use Rattle.method.specs.computed.Event.{zero-if-absent, in-if-present, price-of, read-tick, read-quote, read, in-session, quote-answer, screened, verdict}
+use Rattle.method.specs.computed.Event.{price-of, read, in-session, quote-answer, screened, verdict}
 use Rattle.method.specs.computed.Relation.{time}
 use Rattle.method.specs.computed.Rooms.{PriceIn, EventIn}
-use Rattle.method.proofs.Demands.{met-by, by-demand, by-cond}
+use Rattle.method.proofs.Demands.{met-by}
+use Rattle.method.proofs.EventAnswered.{Says, says}
 
 -- ---- the prices that are read lie within 2,000,000,000
-price-in : (present : Bool) (z : ℤ) → in-if-present present z ≡ true → PriceIn (price-of present z)
+price-in : (present : Bool) (z : ℤ) → (present ≡ true → Within largest-quote z) → PriceIn (price-of present z)
 unfolding PriceIn
-price-in true z e = in-span-true largest-quote z e
-price-in false z e = tt
-
-tick-in : (t : Seconds) (id : ℕ) (bid ask : ℤ) → EventIn (read-tick t id bid ask)
-unfolding read-tick EventIn
-tick-in t id bid ask = by-demand EventIn (eqb id 0 && same bid (pos 0) && same ask (pos 0)) (λ e. tt) (λ e. tt)
-
-quote-in : (t : Seconds) (id flags : ℕ) (bid ask : ℤ) → EventIn (read-quote t id flags bid ask)
-unfolding read-quote EventIn
-quote-in t id flags bid ask =
-    by-demand EventIn (ltb flags 4)
-    (λ l. by-demand EventIn (zero-if-absent (bit 0 flags) bid && zero-if-absent (bit 1 flags) ask)
-    (λ a. by-demand EventIn (in-if-present (bit 0 flags) bid && in-if-present (bit 1 flags) ask)
-    (λ e. let p = both (in-if-present (bit 0 flags) bid) (in-if-present (bit 1 flags) ask) e in
-    (price-in (bit 0 flags) bid (p .0), price-in (bit 1 flags) ask (p .1)))
-    (λ e. tt))
-    (λ a. tt))
-    (λ l. tt)
+price-in true z r = r refl
+price-in false z r = tt
 
 pub read-in : (b : List ℕ) → EventIn (read b)
-unfolding read
-read-in b =
-    by-demand EventIn (eqb (length b) 20)
-    (λ e. by-cond EventIn (eqb (word b 8) 4) (λ f. tick-in (seconds (word b 0)) (word b 4) (signed (word b 12)) (signed (word b 16)))
-    (λ f. quote-in (seconds (word b 0)) (word b 4) (word b 8) (signed (word b 12)) (signed (word b 16))))
-    (λ e. unfold EventIn in tt)
+unfolding EventIn
+read-in b = go (says b)
+  where
+    go : {e : Event} → Says b e → EventIn e
+    go (Says.says-nothing n m) = tt
+    go (Says.says-absent l n) = tt
+    go (Says.says-beyond l a n) = tt
+    go (Says.says-tick t) = tt
+    go (Says.says-quote q) = (price-in _ _ (q .prices .bid), price-in _ _ (q .prices .ask))
 
 -- ---- an accepted event's time lies between the clock and session end
 pub not-accepted : {why : EventReason} → EventAnswer.Refused why ≡ EventAnswer.Accepted → ⊥
