@@ -21,7 +21,7 @@ use Rattle.method.specs.declared.Row.the-variants as Row
 use Rattle.method.proofs.Answers.{run-right, answers-spend, run-append, finally-append}
 use Rattle.method.proofs.Demands.{by-cond}
 use Rattle.rows.specs.Buffer.{written}
-use Rattle.rows.proofs.Buffer.{numbers-long, numbers-append}
+use Rattle.rows.proofs.Buffer.{written-on, numbers-long, numbers-append}
 use Rattle.corridor.specs.declared.Session.{Session}
 use Rattle.rows.specs.declared.RowsAnswer.{RowsAnswer}
 use Rattle.feeding.specs.declared.Fed.{Fed}
@@ -139,11 +139,26 @@ valid-feed s size b v =
     by-cond (λ (r : Fed). Valid (r .session)) (ltb size (feed-needs (length b))) (λ e. v) (λ e. valid-left s b v)
 
 pub feed-on : FeedOn
-feed-on s xs ys k whole =
+feed-on s xs ys k whole v =
     record {
       session = λ m n p h g i. rw (fed-is s m xs h, fed-is (left-by s xs) n ys g, fed-is s p (xs ++ ys) i) (sym (left-on s xs ys k whole));
-      numbers = ap numbers-of (rows-for-on s xs ys k whole) ∙ numbers-append (rows-for s xs) (behind xs (rows-for (left-by s xs) ys));
+      numbers = numbers;
+      buffer = buffer;
     }
+  where
+    more : List ℤ
+    more = numbers-of (behind xs (rows-for (left-by s xs) ys))
+
+    numbers : told s (xs ++ ys) ≡ told s xs ++ more
+    numbers = ap numbers-of (rows-for-on s xs ys k whole) ∙ numbers-append (rows-for s xs) (behind xs (rows-for (left-by s xs) ys))
+
+    buffer : (out : List ℤ) → feed-needs (length xs) ≤ length out → feed-needs (length (xs ++ ys)) ≤ length out
+        → fed-into s out (xs ++ ys) ≡ written (fed-into s out xs) (length (told s xs)) more
+    buffer out h i =
+        let fits : 0 + length (told s xs) ≤ length out = omega (arith, told-fits s xs v) in
+        let on : written (written out 0 (told s xs)) (length (told s xs)) more ≡ written out 0 (told s xs ++ more) =
+        ap (λ (at : ℕ). written (written out 0 (told s xs)) at more) (sym (zero-add (length (told s xs)))) ∙ written-on out 0 (told s xs) fits more in
+        rw (fed-into-is s out (xs ++ ys) i, fed-into-is s out xs h, numbers) (sym on)
 
 -- ---- piece by piece
 pub feeding-is-the-same : FeedingIsTheSame

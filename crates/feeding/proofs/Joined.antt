@@ -40,11 +40,11 @@ one-buffer s cs v w = record { rows = rows-joined s cs w; session = left-joined 
 -- What is read off rows one after another, and does not look at places, is the same of the rows that each chunk tells.
 module _ {A : Type 0} (off : List Row → List A) (on : (rows more : List Row) → off (rows ++ more) ≡ off rows ++ off more)
     (still : (k : ℕ) (rows : List Row) → off (map (raised k) rows) ≡ off rows) where
-  pub each-or-on : (s : Session) (cs : List (List ℕ)) → off (rows-in s cs) ≡ off (counted-on s cs)
+  pub places-aside : (s : Session) (cs : List (List ℕ)) → off (rows-in s cs) ≡ off (counted-on s cs)
   unfolding rows-in counted-on
-  each-or-on s [] = refl
-  each-or-on s (c ∷ cs) =
+  places-aside s [] = refl
+  places-aside s (c ∷ cs) =
       let rest : List Row = counted-on (left-by s c) cs in
       on (rows-for s c) (rows-in (left-by s c) cs)
-      ∙ ap (λ (xs : List A). off (rows-for s c) ++ xs) (each-or-on (left-by s c) cs ∙ sym (still (length (events-of c)) rest))
+      ∙ ap (λ (xs : List A). off (rows-for s c) ++ xs) (places-aside (left-by s c) cs ∙ sym (still (length (events-of c)) rest))
       ∙ sym (on (rows-for s c) (behind c rest))

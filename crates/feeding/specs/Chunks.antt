@@ -11,7 +11,8 @@ use Rattle.method.specs.told.Rows.{numbers-of}
 use Rattle.method.specs.told.Program.{events-of}
 use Rattle.corridor.specs.declared.Session.{Session}
 use Rattle.corridor.specs.View.{Valid}
-use Rattle.feeding.specs.Feeding.{feed-needs, rows-for, told, left-by, fed}
+use Rattle.rows.specs.Buffer.{written}
+use Rattle.feeding.specs.Feeding.{feed-needs, rows-for, told, left-by, fed, fed-into}
 
 -- all bytes, one chunk after another
 abbrev pub all-bytes : List (List ℕ) → List ℕ
@@ -64,13 +65,16 @@ abbrev pub OneBuffer : Type 0
 OneBuffer = (s : Session) (cs : List (List ℕ)) → Valid s → WholeButLast cs → AsOne s cs
 
 -- ---- two buffers that are fed one after the other, where each has its room
--- xs and then ys, against both at once: the session, and the numbers, those of ys behind those of xs
+-- xs and then ys, against both at once: the session; the numbers, those of ys behind those of xs; and the lent buffer, with those of ys written
+-- behind what xs left in it
 pub record FedOn (s : Session) (xs ys : List ℕ) : Type 0 where
   pub session : (m n p : ℕ) → feed-needs (length xs) ≤ m → feed-needs (length ys) ≤ n → feed-needs (length (xs ++ ys)) ≤ p
       → fed (fed s m xs .session) n ys .session ≡ fed s p (xs ++ ys) .session
   pub numbers : told s (xs ++ ys) ≡ told s xs ++ numbers-of (behind xs (rows-for (left-by s xs) ys))
+  pub buffer : (out : List ℤ) → feed-needs (length xs) ≤ length out → feed-needs (length (xs ++ ys)) ≤ length out
+      → fed-into s out (xs ++ ys) ≡ written (fed-into s out xs) (length (told s xs)) (numbers-of (behind xs (rows-for (left-by s xs) ys)))
 
--- For whole events xs and any bytes ys: feeding xs and then ys leaves the same session as feeding both at once, and tells the same numbers, once
--- the rows of ys are raised by the events of xs. [feed-on, in proofs/Chunks]
+-- From any valid session, for whole events xs and any bytes ys: feeding xs and then ys leaves the same session as feeding both at once, and
+-- tells the same numbers in the same places, once the rows of ys are raised by the events of xs. [feed-on, in proofs/Chunks]
 abbrev pub FeedOn : Type 0
-FeedOn = (s : Session) (xs ys : List ℕ) (k : ℕ) → length xs ≡ 20 * k → FedOn s xs ys
+FeedOn = (s : Session) (xs ys : List ℕ) (k : ℕ) → length xs ≡ 20 * k → Valid s → FedOn s xs ys

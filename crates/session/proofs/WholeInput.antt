@@ -27,7 +27,7 @@ use Rattle.feeding.specs.Feeding.{rows-for, left-by}
 use Rattle.feeding.specs.Chunks.{all-bytes, WholeButLast, raised, rows-in, left-in}
 use Rattle.corridor.proofs.Views.{view-put}
 use Rattle.corridor.proofs.Theorems.{valid-open}
-use Rattle.feeding.proofs.Joined.{one-buffer, each-or-on}
+use Rattle.feeding.proofs.Joined.{one-buffer, places-aside}
 use Rattle.session.specs.Reading.{longest-table, table-end}
 use Rattle.session.specs.Printing.{told-text, closing-text, texts, texts-after, WholeInput}
 use Rattle.session.proofs.HeaderAlone.{same-answer, is-refused}
@@ -73,7 +73,7 @@ unfolding opened-session rows-after
 after-opening (opened x) chunks v w =
     let s : Session = put no-session x in
     let one = one-buffer s chunks (v refl) w in
-    texts-are s chunks ∙ rw (each-or-on text-of text-append text-still s chunks ∙ ap text-of (one .rows), one .session) (state-told x (all-bytes chunks))
+    texts-are s chunks ∙ rw (places-aside text-of text-append text-still s chunks ∙ ap text-of (one .rows), one .session) (state-told x (all-bytes chunks))
 after-opening (refused why line) chunks v w = refl
 
 after-refusal : (x : Opening) (chunks : List (List ℕ)) (events : List (List ℕ)) → ((s : State) → x ≡ opened s → ⊥) → text-after x chunks ≡ text-of (rows-after x events)

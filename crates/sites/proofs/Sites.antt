@@ -21,7 +21,7 @@ use Rattle.corridor.specs.Engine.{one-by-one, left-after}
 use Rattle.corridor.proofs.Engine.{valid-proper, engine-runs, engine-is-right}
 use Rattle.corridor.proofs.Views.{view-put}
 use Rattle.feeding.proofs.Chunks.{fed-is, fed-into-is}
-use Rattle.feeding.proofs.Joined.{one-buffer, each-or-on}
+use Rattle.feeding.proofs.Joined.{one-buffer, places-aside}
 use Rattle.sites.specs.Sites.{EventsAlike, only-shifts, FedWith, ToldBy, BuffersAlike, ChunksAsHanded, ChunksAlike}
 use Rattle.sites.proofs.Rows.{lines-in, lines-append, lines-still, only-shifts-of, only-shifts-are-lines}
 
@@ -79,7 +79,7 @@ buffers-alike s b d v a out lent r q now then f g =
 pub chunks-as-handed : ChunksAsHanded
 chunks-as-handed s cs v w =
     let one = one-buffer s cs v w in
-    let same : lines-in (rows-in s cs) ≡ lines-in (rows-for s (all-bytes cs)) = each-or-on lines-in lines-append lines-still s cs ∙ ap lines-in (one .rows) in
+    let same : lines-in (rows-in s cs) ≡ lines-in (rows-for s (all-bytes cs)) = places-aside lines-in lines-append lines-still s cs ∙ ap lines-in (one .rows) in
     record {
       lines = only-shifts-of (rows-in s cs) ∙ rw same (sym (only-shifts-of (rows-for s (all-bytes cs))) ∙ told-as-handed s (all-bytes cs) v);
       session = one .session ∙ left-as-handed s (all-bytes cs) v;

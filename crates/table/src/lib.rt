@@ -97,9 +97,9 @@ fn open_line(
     requires { ⌜ Ready shift keys n × (count ≤ most-contracts) ⌝ }
     ensures { λ r. ⌜ r ≡ open-line shift (take n keys) (take count lines) c ⌝ }
 {
-    let ranges = table_ranges::fields(c);
+    let fields = table_ranges::fields(c);
     let good_id = id_good(lines, count, c.id);
-    if let FieldsAnswer::Bad(f) = ranges {
+    if let FieldsAnswer::Bad(f) = fields {
         return LineAnswer::Refused(TableReason::Field(f));
     }
     if !good_id {

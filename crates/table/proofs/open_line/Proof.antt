@@ -30,12 +30,12 @@ fields-requires c κs = search needs
 id-good-requires : tie.Need-id-good-requires
 id-good-requires c κs = search needs
 
-enum-known-ranges : tie.Need-enum-known-ranges
-enum-known-ranges c = search needs
+enum-known-fields : tie.Need-enum-known-fields
+enum-known-fields c = search needs
 
 returns : tie.Need-returns
 unfolding open-line
-returns c = rw (sym (c .before .before .before .before .fields .ensures) ∙ c .before .ranges .given .1)
+returns c = rw (sym (c .before .before .before .before .fields .ensures) ∙ c .before .fields2 .given .1)
 
 enum-told : tie.Need-enum-told
 enum-told c = search needs
@@ -80,7 +80,7 @@ open-line-spec =
     (tie.spec
     fields-requires
     id-good-requires
-    enum-known-ranges
+    enum-known-fields
     returns
     enum-told
     returns-2
