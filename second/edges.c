@@ -48,9 +48,16 @@ void edge_put(uint32_t contract[CONTRACT_FIELDS], const Edge *edge, bool good)
     }
 }
 
+/* Whether the rate before is the greatest, so that this one has a single good value. */
+static bool ends_meet(const uint32_t *contract, const Edge *edge)
+{
+    bool later_rate = edge->field == CONTRACT_RATE_2 || edge->field == CONTRACT_RATE_3;
+    return later_rate && contract[edge->field - 1] == 1000000;
+}
+
 bool edge_reached(const uint32_t contract[CONTRACT_FIELDS], const Edge *edge, bool good)
 {
     uint32_t flags = contract[CONTRACT_FLAGS];
     return (flags & edge->set) == edge->set && (flags & edge->clear) == 0
-        && contract[edge->field] == value_at(contract, edge, good);
+        && contract[edge->field] == value_at(contract, edge, good) && !(good && ends_meet(contract, edge));
 }

@@ -30,7 +30,7 @@ extern const Edge EDGE[EDGES];
 /* Gives the contract the last good value, or the first bad one. With a good rate, later ones that it is above rise to it. */
 void edge_put(uint32_t contract[CONTRACT_FIELDS], const Edge *edge, bool good);
 
-/* Whether the contract has that value. */
+/* Whether the contract has that value. A good rate where both ends meet is at neither. */
 bool edge_reached(const uint32_t contract[CONTRACT_FIELDS], const Edge *edge, bool good);
 
 #endif

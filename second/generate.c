@@ -373,19 +373,6 @@ static void damage_key(Random *random, TableDraft *draft)
     }
 }
 
-/* Gives a contract the last good value at an edge, and lets all contracts open with it if they can. */
-static void bring_to_edge(TableDraft *draft, uint32_t index, const Edge *edge)
-{
-    edge_put(draft->contracts[index], edge, true);
-    if (edge->field == CONTRACT_DAYS_LEFT) {
-        /* So many days are within the exponent's cap only at low rates. */
-        set_rates_of_keys(draft, 50000);
-    }
-    for (uint32_t i = 0; i < draft->contract_count; i++) {
-        mend_contract(draft, i);
-    }
-}
-
 /* Mostly the first bad value at the edge, or any. */
 static void bring_beyond_edge(Random *random, uint32_t *contract, const Edge *edge)
 {
@@ -402,6 +389,15 @@ static uint32_t any_edge_of(Random *random, uint32_t field)
         edge = count_between(random, 0, EDGES - 1);
     }
     return edge;
+}
+
+/* Gives a contract the last good value at an edge of a rate, and lets it open with it if it can. Rates hardly ever come there
+   by themselves, but for the three greatest together; other fields do. */
+static void bring_rate_to_edge(Random *random, TableDraft *draft, uint32_t index)
+{
+    uint32_t edge = any_edge_of(random, count_between(random, CONTRACT_RATE_1, CONTRACT_RATE_3));
+    edge_put(draft->contracts[index], &EDGE[edge], true);
+    mend_contract(draft, index);
 }
 
 /* Two fields of a contract beyond their edges, the first of them any but the flags, which come last. */
@@ -426,11 +422,10 @@ static void damage_one_field(Random *random, uint32_t *contract)
 static void damage_contract(Random *random, TableDraft *draft)
 {
     uint32_t index = count_between(random, 0, draft->contract_count - 1);
-    uint32_t edge = count_between(random, 0, EDGES - 1);
     int64_t kind = between(random, 0, 99);
-    if (kind < 30) {
-        bring_to_edge(draft, index, &EDGE[edge]);
-    } else if (kind < 65) {
+    if (kind < 25) {
+        bring_rate_to_edge(random, draft, index);
+    } else if (kind < 60) {
         damage_one_field(random, draft->contracts[index]);
     } else {
         damage_two_fields(random, draft->contracts[index]);

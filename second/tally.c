@@ -102,7 +102,8 @@ static const uint64_t LEAST_IN_A_THOUSAND[TALLY_COUNTS] = {
    of generate.c, so that demands of the group would fail then. */
 static const struct { int first; int members; uint64_t least; } GROUPS[] = {
     {TALLY_FIRST_BAD, EDGES, 1}, /* 2, and 0 if refusal 5 were aimed at no more often than others */
-    {TALLY_LAST_GOOD, EDGES, 1}, /* 2, and 0 without bring_to_edge */
+    /* 3, all the rarest those of rates; 0 without bring_rate_to_edge or without raise_rates, 1 without the former's mending. */
+    {TALLY_LAST_GOOD, EDGES, 2},
     {TALLY_FIELD_ALONE, FIELDS_AT_FAULT, 2}, /* 4, and 1 if refusal 5 were aimed at no more often than others */
     {TALLY_FIELD_NOT_ALONE, FIELDS_BEFORE_ANOTHER, 2}, /* 3, and 0 without damage_two_fields */
     {TALLY_PAIR, REFUSAL_PAIRS, 30}, /* 57, and 9 without spoil_absence, 2 without spoil_range, 0 without a second fault */
