@@ -373,15 +373,6 @@ static void damage_key(Random *random, TableDraft *draft)
     }
 }
 
-/* Mostly the first bad value at the edge, or any. */
-static void bring_beyond_edge(Random *random, uint32_t *contract, const Edge *edge)
-{
-    edge_put(contract, edge, false);
-    if (chance(random, 15)) {
-        contract[edge->field] = wild(random);
-    }
-}
-
 static uint32_t any_edge_of(Random *random, uint32_t field)
 {
     uint32_t edge = count_between(random, 0, EDGES - 1);
@@ -400,7 +391,7 @@ static void bring_rate_to_edge(Random *random, TableDraft *draft, uint32_t index
     mend_contract(draft, index);
 }
 
-/* Two fields of a contract beyond their edges, the first of them any but the flags, which come last. */
+/* Two fields of a contract a step beyond their edges, the first of them any but the flags, which come last. */
 static void damage_two_fields(Random *random, uint32_t *contract)
 {
     uint32_t first = any_edge_of(random, count_between(random, CONTRACT_SETTLEMENT, CONTRACT_DAYS_LEFT));
@@ -408,15 +399,15 @@ static void damage_two_fields(Random *random, uint32_t *contract)
     while (EDGE[later].field == EDGE[first].field) {
         later = count_between(random, first, EDGES - 1);
     }
-    bring_beyond_edge(random, contract, &EDGE[first]);
-    bring_beyond_edge(random, contract, &EDGE[later]);
+    edge_put(contract, &EDGE[first], false);
+    edge_put(contract, &EDGE[later], false);
 }
 
 static void damage_one_field(Random *random, uint32_t *contract)
 {
     uint32_t field = count_between(random, CONTRACT_SETTLEMENT, CONTRACT_ID);
     uint32_t edge = any_edge_of(random, field == CONTRACT_ID ? CONTRACT_FLAGS : field);
-    bring_beyond_edge(random, contract, &EDGE[edge]);
+    edge_put(contract, &EDGE[edge], false);
 }
 
 static void damage_contract(Random *random, TableDraft *draft)
@@ -644,34 +635,28 @@ static EventDraft make_event(Course *course)
 static void spoil_form(Random *random, EventDraft *event)
 {
     int64_t field = between(random, EVENT_ID, EVENT_ASK);
-    switch (between(random, 0, 4)) {
+    switch (between(random, 0, 3)) {
     case 0: event->fields[EVENT_FLAGS] = count_between(random, 5, 9); break;
     case 1: event->fields[EVENT_FLAGS] |= UINT32_C(4) << between(random, 0, 29); break;
-    case 2: event->fields[EVENT_FLAGS] = FLAG_TICK; break;
-    case 3: event->fields[field] = (uint32_t)between(random, -1, 1); break;
+    case 2: event->fields[field] = (uint32_t)between(random, -1, 1); break;
     default: event->fields[field] = wild(random); break;
     }
 }
 
-/* A price out of range, mostly by one. */
+/* A price out of range, mostly by one; the ends of 32 bits are there for variety only. */
 static uint32_t bad_price(Random *random)
 {
     static const uint32_t prices[] = {2000000001, (uint32_t)-2000000001, INT32_MAX, UINT32_C(0x80000000)};
     return prices[between(random, 0, chance(random, 75) ? 1 : 3)];
 }
 
-/* A price that its flag says is absent: the one that stood there, one beside 0, or one out of range. */
+/* A price that its flag says is absent: the one that stood there, or any. */
 static void spoil_absence(Random *random, EventDraft *event)
 {
     bool bid = chance(random, 50);
     uint32_t *price = &event->fields[bid ? EVENT_BID : EVENT_ASK];
     event->fields[EVENT_FLAGS] &= ~(uint32_t)(bid ? FLAG_BID : FLAG_ASK);
-    switch (between(random, 0, 3)) {
-    case 0: *price = 1; break;
-    case 1: *price = UINT32_MAX; break;
-    case 2: *price = bad_price(random); break;
-    default: *price = *price == 0 ? wild(random) : *price; break;
-    }
+    *price = *price == 0 ? wild(random) : *price;
 }
 
 /* A price out of range that its flag says is present. */
@@ -764,7 +749,7 @@ static void choose_course(Course *course)
     Random *random = course->random;
     course->upper_percent = upperness[between(random, 0, 4)];
     course->steady_percent = steadiness[between(random, 0, 3)];
-    course->leap_percent = chance(random, 10) ? 10 : 0;
+    course->leap_percent = chance(random, 20) ? 10 : 0;
     course->spoiled_percent = spoiling[between(random, 0, 4)];
 }
 

@@ -68,11 +68,12 @@ static const char *const NAMES[TALLY_COUNTS] = {
 
 /* How many of a thousand generated inputs have to bring it about. Behind it: about how many do, and how many would without
    a step of generate.c, so that each of these demands would fail then. The step is spoil_absence for refusal 15 and
-   spoil_range for 16, damage_limits' bringing contracts around zero for refusal 9, and for the others that contracts are
-   brought near zero. */
+   spoil_range for 16, the leaps of time for sixteen shifts, damage_limits' bringing contracts around zero for refusal 9, and
+   for the others that contracts are brought near zero. */
 static const uint64_t LEAST_IN_A_THOUSAND[TALLY_COUNTS] = {
-    [REFUSED_ABSENT_PRICE] = 200, /* 371, 158 */
-    [REFUSED_PRICE_RANGE] = 200, /* 361, 34 */
+    [REFUSED_ABSENT_PRICE] = 200, /* 367, 117 */
+    [REFUSED_PRICE_RANGE] = 200, /* 357, 23 */
+    [TALLY_MOST_SHIFTS_AT_ONCE] = 5, /* 8, 3 */
     [TALLY_UPPER_MARKET_NEGATIVE] = 50,
     [TALLY_LOWER_MARKET_NOT_NEGATIVE] = 50,
     [TALLY_UPPER_ACROSS_ZERO] = 50,
@@ -106,7 +107,7 @@ static const struct { int first; int members; uint64_t least; } GROUPS[] = {
     {TALLY_LAST_GOOD, EDGES, 2},
     {TALLY_FIELD_ALONE, FIELDS_AT_FAULT, 2}, /* 4, and 1 if refusal 5 were aimed at no more often than others */
     {TALLY_FIELD_NOT_ALONE, FIELDS_BEFORE_ANOTHER, 2}, /* 3, and 0 without damage_two_fields */
-    {TALLY_PAIR, REFUSAL_PAIRS, 30}, /* 57, and 9 without spoil_absence, 2 without spoil_range, 0 without a second fault */
+    {TALLY_PAIR, REFUSAL_PAIRS, 30}, /* 55, and 6 without spoil_absence, 0 without spoil_range or without a second fault */
 };
 
 static bool in_group(int count, int first, int members)
