@@ -2,7 +2,7 @@
  * coverage.c: the program "coverage SEED COUNT". It generates inputs, runs the engine on each, and prints
  * what they brought about. Short sessions are also checked second by second against the slow engine. Every input
  * is also run with free events added (thickened.h). It fails at any difference, and where too few inputs bring about what
- * tally.c demands a share for.
+ * tally.c demands a share for. A run of few inputs, as with sanitizers, is for differences alone and demands no shares.
  */
 #include "corridor.h"
 #include "draft.h"
@@ -16,8 +16,12 @@
 #include <stdio.h>
 #include <stdlib.h>
 
-/* Longer sessions would take the slow engine too long. */
-enum { LONGEST_SLOW_SESSION = 20000 };
+enum {
+    /* Longer sessions would take the slow engine too long. */
+    LONGEST_SLOW_SESSION = 20000,
+    /* Of fewer inputs it would be the seed's luck whether the rarest things reach their shares. */
+    LEAST_INPUTS_FOR_SHARES = 10000
+};
 
 /* Gives the slow engine an accepted event; says whether it answers alike and stands alike. */
 static bool slow_agrees(SlowSession *slow, const Session *session, const uint8_t *bytes, const EventAnswer *answer)
@@ -86,7 +90,9 @@ static bool judge(const Result *result, uint64_t count)
     printf("%" PRIu64 " compared second by second, %" PRIu64 " different\n", result->slow, result->slow_different);
     printf("%" PRIu64 " compared with free events added, %" PRIu64 " different\n", result->thickened,
            result->thickened_different);
-    bool enough = tally_enough(&result->total, TALLY_FIRST, count, 0) == TALLY_COUNTS - TALLY_FIRST;
+    bool shares_demanded = count >= LEAST_INPUTS_FOR_SHARES;
+    puts(shares_demanded ? "shares demanded" : "too few inputs to demand shares");
+    bool enough = !shares_demanded || tally_enough(&result->total, TALLY_FIRST, count, 0) == TALLY_COUNTS - TALLY_FIRST;
     return enough && result->slow_different == 0 && result->thickened_different == 0;
 }
 
