@@ -20,17 +20,21 @@ size_t faults_line_alone(const Input *input, uint32_t line, uint8_t table[LONGES
     return contracts + CONTRACT_BYTES;
 }
 
-/* All fields up to the one named get values that are good whatever the later ones are. None follows the flags. */
+/* All fields up to the one named get values that are good whatever the later ones are, one field after another: a rate that
+   only falls is good once the one before it is, and a later rate is then held to it as it stands. */
 bool faults_later_field(const Input *input, const TableAnswer *answer)
 {
     static const uint8_t good[CONTRACT_ID] = {1, 0, 1, 1, 1, 1, 0, 0};
     uint8_t table[LONGEST_TABLE];
     Session session;
+    bool later = false;
     size_t length = faults_line_alone(input, answer->line, table);
     for (uint32_t i = 0; i < answer->field && i < CONTRACT_ID; i++) {
         memcpy(table + length - CONTRACT_BYTES + 4 * i, (const uint8_t[4]){good[i]}, 4);
+        TableAnswer left = corridor_open(table, length, &session);
+        later = later || (left.kind == REFUSED && left.reason == REFUSED_CONTRACT && left.field > answer->field);
     }
-    return answer->field <= CONTRACT_ID && corridor_open(table, length, &session).reason == REFUSED_CONTRACT;
+    return later;
 }
 
 /* ---- Events ---- */
