@@ -20,7 +20,6 @@ static const int64_t MILLION = 1000000;
 static const int64_t BILLION = 1000000000;
 static const int64_t EXPONENT_CAP = 500000000;
 static const int64_t MOST_TABLE_PRICE = 100000000;
-static const int64_t MOST_QUOTE_PRICE = 2000000000;
 static const int64_t MOST_DAYS = 3650;
 
 const Seconds NEVER = {UINT32_MAX};

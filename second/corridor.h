@@ -23,6 +23,8 @@ enum {
     LEVELS = 3,
     SIDES = 2,
     ID_SLOTS = 256,
+    /* How far from zero a quote's price may be, in steps. */
+    MOST_QUOTE_PRICE = 2000000000,
     LONGEST_TABLE = HEADER_BYTES + MOST_KEYS * KEY_BYTES + MOST_LINES * CONTRACT_BYTES
 };
 

@@ -7,8 +7,6 @@
 
 #include <string.h>
 
-static const int64_t MOST_QUOTE_PRICE = 2000000000;
-
 /* ---- Contracts ---- */
 
 size_t faults_line_alone(const Input *input, uint32_t line, uint8_t table[LONGEST_TABLE])

@@ -915,7 +915,7 @@ static void readings_of_order(void)
                          {{1, 7, UINT32_MAX, 0, 0}}));
     check_session("A5 id 0", &draft, "R 13\n", EVENTS(draft_empty(1, 0)));
     check_session("A5 bid = ask", &draft, "", EVENTS(draft_quote(1, 7, 1000, 1000)));
-    check_session("13 before 14", &draft, "R 13\n", EVENTS(draft_quote(1, 9, 1000, 999)));
+    check_session("A5 unknown id, crossed", &draft, "R 13\n", EVENTS(draft_quote(1, 9, 1000, 999)));
 }
 
 static void readings_of_fields(void)

@@ -16,7 +16,6 @@ static const int64_t MOST_SESSION_SECONDS = 172800;
 static const int64_t MOST_NEAR_SHARE = 500000;
 static const int64_t MILLION = 1000000;
 static const int64_t MOST_TABLE_PRICE = 100000000;
-static const int64_t MOST_QUOTE_PRICE = 2000000000;
 static const int64_t MOST_DAYS = 3650;
 
 /* ---- Numbers ---- */

@@ -247,17 +247,14 @@ static void step_thickened(sundewcup_session *plain, sundewcup_session *with, co
            rows_same_unrefused(plain_answer.numbers, plain_answer.count, answer.numbers, answer.count));
 }
 
-static TallyTotal total;
-
-/* The end and the answer are those of the input without free events. Here too is counted what the input brings about. */
-static void take_thickened(const Input *input, const sundewcup_session *end, const Answer *plain_answer, Random *random)
+/* The end and the answer are those of the input without free events. */
+static void take_thickened(const Input *input, const sundewcup_session *end, const Answer *plain_answer, Random *random,
+                           Tally *tally)
 {
     static Thickened thickened;
     static Answer answer;
-    Tally tally = tally_input(input);
     thicken(input, &thickened);
-    expect(COMPARED_THICKENED_SECOND, thickened_agrees(input, &thickened, &tally));
-    tally_add(&total, &tally);
+    expect(COMPARED_THICKENED_SECOND, thickened_agrees(input, &thickened, tally));
     sundewcup_session *plain = make_session();
     sundewcup_session *with = make_session();
     if (open_table(plain, input->table, input->table_length).number == 0) {
@@ -537,6 +534,8 @@ static void take_opened(sundewcup_session *session, const Input *input, const An
     damage(session, number);
 }
 
+static TallyTotal total;
+
 static void take(const uint8_t *bytes, size_t length, uint64_t number)
 {
     static Answer second;
@@ -554,7 +553,9 @@ static void take(const uint8_t *bytes, size_t length, uint64_t number)
     expect(COMPARED_TEXT, text_same(events.numbers, events.count, bytes, length));
     expect(COMPARED_FEED, second.count == buffers.count && memcmp(second.numbers, buffers.numbers, size) == 0);
     expect(COMPARED_FEED, same(one, other));
-    take_thickened(&input, one, &events, &random);
+    Tally tally = tally_input(&input);
+    take_thickened(&input, one, &events, &random, &tally);
+    tally_add(&total, &tally);
     if (second.numbers[0] == ROW_REFUSED_TABLE) {
         take_refused(one, &input);
     } else {
