@@ -1,5 +1,5 @@
 /*
- * engine.h: the engine that the figures are held to. Which one it is, is chosen where figures.c is linked:
+ * engine.h: the engine that the figures are held to. Which one it is, is chosen where they are linked:
  * engine.c has this one, library.c the proved one.
  */
 #ifndef ENGINE_H

@@ -17,6 +17,50 @@ TableDraft sample(void)
     return draft;
 }
 
+const uint8_t SAMPLE_TABLE[SAMPLE_BYTES] = {
+    1, 0, 0, 0, 1, 0, 0, 0, 48, 0, 0, 0, 1, 0, 0, 0, 40, 0, 0, 0,
+    0xe8, 3, 0, 0, 60, 0, 0, 0, 2, 0, 0, 0, 0x50, 0xc3, 0, 0, 0x20, 0xa1, 7, 0,
+    0x6d, 1, 0, 0, 0, 0, 0, 0,
+    0xe8, 3, 0, 0, 0xe8, 3, 0, 0, 1, 0, 0, 0, 0xa0, 0x86, 1, 0, 0x40, 0x0d, 3, 0,
+    0xe0, 0x93, 4, 0, 0x20, 0xa1, 7, 0, 90, 0, 0, 0, 7, 0, 0, 0, 2, 0, 0, 0,
+};
+
+uint32_t *add_contract(TableDraft *draft, uint32_t id)
+{
+    uint32_t *contract = draft->contracts[draft->contract_count];
+    memcpy(contract, draft->contracts[0], sizeof draft->contracts[0]);
+    contract[CONTRACT_ID] = id;
+    draft_counts(draft, draft->key_count, draft->contract_count + 1);
+    return contract;
+}
+
+TableDraft sample_of_two(void)
+{
+    TableDraft draft = sample();
+    add_contract(&draft, 8);
+    draft.header[HEADER_MOST_SHIFTS] = 16;
+    return draft;
+}
+
+TableDraft sample_with_growth(int32_t settlement, uint32_t half_width, uint32_t width_share, uint32_t flags)
+{
+    TableDraft draft = sample();
+    draft.keys[0][KEY_RATE] = 100000;
+    draft.contracts[0][CONTRACT_SETTLEMENT] = (uint32_t)settlement;
+    draft.contracts[0][CONTRACT_SPOT] = 10 * half_width;
+    draft.contracts[0][CONTRACT_WIDTH_SHARE] = width_share;
+    draft.contracts[0][CONTRACT_DAYS_LEFT] = 365;
+    draft.contracts[0][CONTRACT_FLAGS] = flags;
+    return draft;
+}
+
+TableDraft sample_near_floor(void)
+{
+    TableDraft draft = sample_with_growth(30, 30, 900000, FLAG_WATCHED);
+    draft.keys[0][KEY_RATE] = 0;
+    return draft;
+}
+
 /*
  * The normal price is 1,051 in all of them: by the spot's size, in the last by the least price. In millionths
  *
