@@ -30,7 +30,7 @@ use Rattle.corridor.specs.declared.Reply.{Reply}
 use Rattle.rows.specs.declared.RowsAnswer.{RowsAnswer}
 use Rattle.corridor.specs.View.{view, put, Valid}
 use Rattle.corridor.specs.Reply.{no-shift, reply-of}
-use Rattle.feeding.specs.Feeding.{feed-needs, answers-told, fed, fed-into}
+use Rattle.feeding.specs.Feeding.{feed-needs, told, fed, fed-into}
 use Rattle.corridor.proofs.Views.{view-put, put-put, put-view}
 use Rattle.corridor.proofs.Events.{finally-kept}
 use Rattle.corridor.proofs.Theorems.{valid-event}
@@ -63,7 +63,7 @@ module _ (o : Session) (b : List ℕ) (out : List ℤ) where
     pub valid : Valid s
     pub inside : from ≤ length b
     pub counted : event + (length b - from + 19) / 20 ≡ (length b + 19) / 20
-    pub answers : answers-told (view o) (events-of b) ≡ done ++ answers-from (event + 1) (view s) (events-of (drop from b))
+    pub answers : told o b ≡ done ++ answers-from (event + 1) (view s) (events-of (drop from b))
     pub session : put o (finally (view o) (events-of b)) ≡ put s (finally (view s) (events-of (drop from b)))
     pub here : now ≡ written out 0 done
     pub long : length done ≡ at
@@ -155,7 +155,7 @@ module _ (o : Session) (b : List ℕ) (out : List ℤ) where
     unfolding pieces
     none-left = rw (last, drop-length b)
 
-    told-all : answers-told (view o) (events-of b) ≡ h .done
+    told-all : told o b ≡ h .done
     unfolding run rows-from
     told-all = h .answers ∙ ap (λ (z : List (List ℕ)). h .done ++ answers-from (event + 1) (view s) z) none-left ∙ append-nil (h .done)
 

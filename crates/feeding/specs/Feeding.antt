@@ -6,7 +6,6 @@ use Prim.Native.Nat.{ℕ, _≤_}
 use lib.Dec.{ltb}
 use lib.IntN.{ℤ}
 use lib.ListN.{length}
-use Rattle.method.specs.words.Types.{State}
 use Rattle.method.specs.words.Ranges.{most-shifts}
 use Rattle.method.specs.declared.Row.{Row}
 use Rattle.method.specs.told.Rows.{rows-of-all, numbers-of}
@@ -22,10 +21,6 @@ use Rattle.corridor.specs.Engine.{one-by-one, left-after}
 -- the room for the answers to so many bytes: beside a row for each event one for each shift that a session may make
 abbrev pub feed-needs : ℕ → ℕ
 feed-needs size = needed size most-shifts
-
--- all answers in numbers
-abbrev pub answers-told : State → List (List ℕ) → List ℤ
-answers-told s events = numbers-of (rows-of-all (run s events))
 
 -- the rows that a session tells for the bytes b, the same in numbers, and the session that they leave
 abbrev pub rows-for : Session → List ℕ → List Row

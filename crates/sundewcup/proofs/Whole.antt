@@ -25,7 +25,7 @@ use Rattle.corridor.specs.declared.Session.{Session}
 use Rattle.corridor.specs.declared.OpenReply.{OpenReply}
 use Rattle.rows.specs.declared.RowsAnswer.{RowsAnswer}
 use Rattle.corridor.specs.View.{view, no-session, opened-session, Valid}
-use Rattle.feeding.specs.Feeding.{answers-told, told, left-by}
+use Rattle.feeding.specs.Feeding.{told, left-by}
 use Rattle.closing.specs.Closing.{closing-numbers}
 use Rattle.corridor.proofs.Views.{view-put}
 use Rattle.corridor.proofs.Theorems.{valid-opened}
@@ -65,7 +65,7 @@ rows-opened : (x : Opening) (b : List ℕ) (z : Session) → opened-session x .a
 unfolding opened-session rows-after session-rows
 rows-opened (opened s) b z said e =
     numbers-append (rows-of-all (run s (events-of b))) (map closing-row (finally s (events-of b) .lines))
-    ∙ ap (λ (x : State). answers-told x (events-of b) ++ numbers-of (map closing-row (finally x (events-of b) .lines))) (sym (ap view e ∙ view-put no-session s))
+    ∙ ap (λ (x : State). numbers-of (rows-of-all (run x (events-of b))) ++ numbers-of (map closing-row (finally x (events-of b) .lines))) (sym (ap view e ∙ view-put no-session s))
     ∙ ap (λ (x : State). told z b ++ numbers-of (map closing-row (x .lines))) (sym (view-put z (finally (view z) (events-of b))))
 rows-opened (refused why line) b z said e = absurd (subst IsOpened (sym said) tt)
 

@@ -1,27 +1,28 @@
--- The fields of a contract tested one after another: what is known where some of them are still to be tested. Assumes nothing.
-use mathlib.Core.Path.{_≡_, refl, sym, _∙_}
+-- The loop that tests a contract's fields one after another: what holds at its head. Assumes nothing.
+use mathlib.Core.Path.{_≡_, sym, _∙_}
 use mathlib.Core.Bool.{true, false}
-use mathlib.Core.List.{List, [], _∷_}
+use Prim.Native.Nat.{ℕ, _+_, _<_}
+use native.Mathlib.Numerals.{add-one}
+use lib.ListN.{getD, drop}
+use lib.Seq.{drop-cons}
 use Rattle.method.specs.words.Ranges.{contract-fields}
 use Rattle.method.specs.computed.Opening.{field-good, first-bad, fields-answer}
 use Rattle.table_ranges.specs.Names.{Contract, Field, FieldsAnswer}
 
--- the first bad field is one of these
-pub record Among (rest : List Field) (c : Contract) : Type 0 where
-  pub on : fields-answer c ≡ first-bad c rest
+-- the first bad field is none of the first i
+abbrev pub Past : ℕ → Contract → Type 0
+Past i c = fields-answer c ≡ first-bad c (drop i contract-fields)
 
-pub among-all : {c : Contract} → Among contract-fields c
-among-all = record { on = refl }
-
-module _ {c : Contract} {f : Field} {rest : List Field} (h : Among (f ∷ rest) c) where
-  pub among-others : field-good f c ≡ true → Among rest c
+-- d is what `getD` would give past the last field, whatever it is
+module _ (c : Contract) (i : ℕ) (h : Past i c) where
+  pub named : (d : Field) → i < 9 → field-good (getD contract-fields i d) c ≡ false → FieldsAnswer.Bad (getD contract-fields i d) ≡ fields-answer c
   unfolding first-bad
-  among-others e = record { on = h .on ∙ rw e }
+  named d g e = sym (h ∙ rw (drop-cons contract-fields i d g, e))
 
-  pub named : field-good f c ≡ false → FieldsAnswer.Bad f ≡ fields-answer c
+  pub past-one-more : (d : Field) → i < 9 → field-good (getD contract-fields i d) c ≡ true → Past (i + 1) c
   unfolding first-bad
-  named e = sym (h .on ∙ rw e)
+  past-one-more d g e = h ∙ rw (add-one i, drop-cons contract-fields i d g, e)
 
-pub none-bad : {c : Contract} → Among [] c → FieldsAnswer.Good ≡ fields-answer c
-unfolding first-bad
-none-bad h = sym (h .on)
+  pub none-bad : i ≡ 9 → FieldsAnswer.Good ≡ fields-answer c
+  unfolding first-bad
+  none-bad e = sym (h ∙ rw e)

@@ -152,36 +152,31 @@ fn field_good(f: Field, c: Contract) -> bool
     }
 }
 
+// In the order of their places.
+const FIELDS: [Field; 9] = [
+    Field::Price,
+    Field::Spot,
+    Field::Least,
+    Field::Rate1,
+    Field::Rate2,
+    Field::Rate3,
+    Field::Width,
+    Field::Days,
+    Field::Flags,
+];
+
 // The fields from first to last, up to one that is not in its range (refusal 5).
 pub fn fields(c: Contract) -> FieldsAnswer
     ensures { λ r. ⌜ r ≡ fields-answer c ⌝ }
 {
-    if !field_good(Field::Price, c) {
-        return FieldsAnswer::Bad(Field::Price);
-    }
-    if !field_good(Field::Spot, c) {
-        return FieldsAnswer::Bad(Field::Spot);
-    }
-    if !field_good(Field::Least, c) {
-        return FieldsAnswer::Bad(Field::Least);
-    }
-    if !field_good(Field::Rate1, c) {
-        return FieldsAnswer::Bad(Field::Rate1);
-    }
-    if !field_good(Field::Rate2, c) {
-        return FieldsAnswer::Bad(Field::Rate2);
-    }
-    if !field_good(Field::Rate3, c) {
-        return FieldsAnswer::Bad(Field::Rate3);
-    }
-    if !field_good(Field::Width, c) {
-        return FieldsAnswer::Bad(Field::Width);
-    }
-    if !field_good(Field::Days, c) {
-        return FieldsAnswer::Bad(Field::Days);
-    }
-    if !field_good(Field::Flags, c) {
-        return FieldsAnswer::Bad(Field::Flags);
+    let all = FIELDS;
+    let mut i: usize = 0;
+    while i < 9 {
+        let f = all[i];
+        if !field_good(f, c) {
+            return FieldsAnswer::Bad(f);
+        }
+        i = i + 1;
     }
     FieldsAnswer::Good
 }
