@@ -1,16 +1,14 @@
 -- What a byte string read as an event tells, what an accepted event tells, and that a shift changes no verdict. Assumes nothing.
 use mathlib.Core.Path.{_≡_, refl, ap, _∙_}
-use mathlib.Core.Bool.{Bool, true, false, _&&_}
+use mathlib.Core.Bool.{Bool, true, false}
 use mathlib.Core.List.{List, [], _∷_, map}
 use Prim.Native.Nat.{ℕ, _-_}
 use native.Mathlib.Omega.{arith}
-use lib.Dec.{ltb, leb, eqb}
-use lib.IntN.{ℤ, pos}
-use lib.ListN.{length}
+use lib.Dec.{leb}
+use lib.IntN.{ℤ}
 use borrow.Author.Tests.{leb-true}
 use Rattle.numbers.specs.Ranges.{Within, Between}
-use Rattle.method.specs.words.Types.{Side, Seconds, Millionths, Line, ShiftLine, State, EventReason, EventAnswer, seconds}
-use Rattle.method.specs.words.Wire.{word, signed, bit}
+use Rattle.method.specs.words.Types.{Side, Seconds, Millionths, Line, ShiftLine, State, EventReason, EventAnswer}
 use Rattle.method.specs.words.Ranges.{largest-quote}
 use Rattle.method.specs.computed.Types.{Event, Damaged, Tick, Quoted}
 use Rattle.method.specs.computed.Opening.{ids}
