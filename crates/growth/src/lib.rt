@@ -70,7 +70,7 @@ pub fn exponent(rate: Millionths, days: u32) -> Billionths
 }
 
 // The exponential series to its twelfth power, each term rounded down.
-fn up_factor(y: Billionths) -> Billionths
+fn by_series(y: Billionths) -> Billionths
     requires { ⌜ y .0 ≤ most-exponent ⌝ }
     ensures { λ r. ⌜ r .0 ≡ up-factor (y .0) ⌝ }
 {
@@ -83,6 +83,17 @@ fn up_factor(y: Billionths) -> Billionths
         k = k + 1;
     }
     Billionths(sum)
+}
+
+// A whole thousandth is read off the desk's sheet, any other exponent goes by the series.
+fn up_factor(y: Billionths) -> Billionths
+    requires { ⌜ y .0 ≤ most-exponent ⌝ }
+    ensures { λ r. ⌜ r .0 ≡ up-factor (y .0) ⌝ }
+{
+    if y.0 % 1000000 == 0 {
+        return growth_sheet::up_factor((y.0 / 1000000) as usize);
+    }
+    by_series(y)
 }
 
 pub fn factors(y: Billionths) -> Factors

@@ -1,59 +1,26 @@
 -- `growth::up_factor` meets its contract. Assumes nothing.
-use Prim.Native.Nat.{_-_}
+use borrow.Author.Needs.{needs}
+use mathlib.Core.Path.{_≡_, ap, _∙_}
+use Prim.Native.Nat.{ℕ, _*_, _/_}
 use native.Mathlib.Omega.{arith}
-use Rattle.growth.proofs.Series.{Summed, summed-start, product, summed-turn, summed-end}
+use Rattle.method.specs.words.Growth.{up-factor}
 use Rattle.growth.proofs.up_factor.Statement.{statement}
 use Rattle.growth.proofs.up_factor.Tie as tie
 
-abbrev Inv-loop : tie.InvT-loop
-Inv-loop y term₀ sum₀ k₀ term sum k = Summed (y .0) term sum k
+up-factor-requires : tie.Need-up-factor-requires
+up-factor-requires c κs = omega (arith, c .before .before .before .pre)
 
-abbrev μ-loop : tie.MeasureT-loop
-μ-loop y term₀ sum₀ k₀ term sum k = 12 - k
+returns : tie.Need-returns
+returns c =
+    let y = c .before .before .before .before .args .y .0 in
+    let whole : y / 1_000_000 * 1_000_000 ≡ y = omega (arith, c .before .before .if1 .taken) in
+    c .up-factor .ensures ∙ ap up-factor whole
 
-loop-holds : tie.Need-loop-holds Inv-loop μ-loop
-loop-holds c = summed-start (c .args .y .0)
+by-series-requires : tie.Need-by-series-requires
+by-series-requires c κs = search needs
 
-mul-term : tie.Need-mul-term Inv-loop μ-loop
-mul-term c = omega (arith, product (c .before .before .loop .inv) (omega arith) (c .before .before .before .pre))
-
-add-term : tie.Need-add-term Inv-loop μ-loop
-add-term c = omega arith
-
-mul-term-2 : tie.Need-mul-term-2 Inv-loop μ-loop
-mul-term-2 c = omega arith
-
-div-term : tie.Need-div-term Inv-loop μ-loop
-div-term c = omega arith
-
-add-sum : tie.Need-add-sum Inv-loop μ-loop
-add-sum c = omega (arith, summed-turn (c .before .before .loop .inv) (omega arith) (c .before .before .before .pre))
-
-add-k : tie.Need-add-k Inv-loop μ-loop
-add-k c = omega arith
-
-loop-less : tie.Need-loop-less Inv-loop μ-loop
-loop-less c = omega arith
-
-loop-again : tie.Need-loop-again Inv-loop μ-loop
-loop-again c = summed-turn (c .before .before .loop .inv) (omega arith) (c .before .before .before .pre)
-
-returns : tie.Need-returns Inv-loop μ-loop
-returns c = summed-end (c .before .loop .inv) (omega arith)
+returns-2 : tie.Need-returns-2
+returns-2 c = c .by-series .ensures
 
 pub up-factor-spec : {M : Type 1} → statement M
-up-factor-spec =
-    tie.close
-    (tie.spec
-    Inv-loop
-    μ-loop
-    loop-holds
-    mul-term
-    add-term
-    mul-term-2
-    div-term
-    add-sum
-    add-k
-    loop-less
-    loop-again
-    returns)
+up-factor-spec = tie.close (tie.spec up-factor-requires returns by-series-requires returns-2)
