@@ -1,7 +1,9 @@
 /*
  * bench.c: times the proved engine, linked as a library, and the second engine on the same events in memory. The proved
  * engine is timed three times: a whole session in one call, and as a host has it, one event a call, without and with the
- * test of its memory. All write the same rows into the same kind of buffer, in turn, and the rows are compared.
+ * test of its memory. All write the same rows into the same kind of buffer, in turn, and the rows are compared. Then both
+ * open a table with no events, once where every exponent is a whole thousandth, which the proved engine reads off a sheet,
+ * and once where none is.
  */
 #include "median.h"
 #include "rows.h"
@@ -65,6 +67,17 @@ static double nanoseconds_an_event(Engine *engine, const Input *input, int64_t *
     return (double)(clock() - start) * (1e9 / CLOCKS_PER_SEC) / EVENTS;
 }
 
+/* With no events a run is an opening and the closing rows. */
+static double nanoseconds_an_opening(Engine *engine, const Input *input, int64_t *out, size_t *count)
+{
+    enum { OPENINGS = 20000 };
+    clock_t start = clock();
+    for (int i = 0; i < OPENINGS; i++) {
+        *count = engine(input, out, NUMBERS);
+    }
+    return (double)(clock() - start) * (1e9 / CLOCKS_PER_SEC) / OPENINGS;
+}
+
 /* What the host's times are held to: a session of some 4 kB that goes out of the memory and back would cost a copy each way. */
 static double nanoseconds_a_copy(void)
 {
@@ -116,6 +129,24 @@ static void bench(uint32_t contract_count, uint8_t *events, int64_t *library_out
            median(checked_times));
 }
 
+static void bench_opening(const char *exponents, bool whole, int64_t *library_out, int64_t *second_out)
+{
+    uint8_t table[LONGEST_TABLE];
+    double library_times[RUNS];
+    double second_times[RUNS];
+    Input input = {table, sample_opening(table, MOST_LINES, whole), NULL, 0};
+    for (int run = 0; run < RUNS; run++) {
+        size_t library_count;
+        size_t second_count;
+        library_times[run] = nanoseconds_an_opening(library_run, &input, library_out, &library_count);
+        second_times[run] = nanoseconds_an_opening(rows_run, &input, second_out, &second_count);
+        hold_together(library_out, library_count, second_out, second_count);
+    }
+    double library = median(library_times);
+    double second = median(second_times);
+    printf("%19s %11.0f %11.0f %9.2f\n", exponents, library, second, library / second);
+}
+
 int main(void)
 {
     static const uint32_t contract_counts[] = {1, 8, 32};
@@ -131,6 +162,10 @@ int main(void)
     for (size_t i = 0; i < sizeof contract_counts / sizeof contract_counts[0]; i++) {
         bench(contract_counts[i], events, library_out, second_out);
     }
+    printf("a table of %d contracts opened and closed, median of %d, nanoseconds\n", MOST_LINES, RUNS);
+    printf("%19s %11s %11s %9s\n", "exponents", "library", "second", "ratio");
+    bench_opening("whole thousandths", true, library_out, second_out);
+    bench_opening("others", false, library_out, second_out);
     free(events);
     free(library_out);
     free(second_out);

@@ -19,20 +19,33 @@ enum {
     STRETCHES = 8
 };
 
+/* The contracts have 0, 1, 2 .. times so many days left. */
+static size_t write_table(TableDraft *draft, uint32_t key_count, uint32_t contract_count, uint32_t days_apart, uint8_t *bytes)
+{
+    const uint32_t header[HEADER_FIELDS] = {[HEADER_SESSION_END] = SESSION_SECONDS, [HEADER_HOLD] = HOLD_SECONDS,
+                                            [HEADER_MOST_SHIFTS] = 16, [HEADER_NEAR_SHARE] = 50000,
+                                            [HEADER_SHIFT_SHARE] = 500000};
+    memcpy(draft->header, header, sizeof header);
+    for (uint32_t i = 0; i < contract_count; i++) {
+        const uint32_t contract[CONTRACT_FIELDS] = {PRICE, PRICE, 1, 100000, 200000, 300000, 500000, days_apart * i, i + 1,
+                                                    FLAG_WATCHED};
+        memcpy(draft->contracts[i], contract, sizeof contract);
+    }
+    draft_counts(draft, key_count, contract_count);
+    return draft_write_table(draft, bytes);
+}
+
 size_t sample_table(uint8_t *bytes, uint32_t contract_count)
 {
-    TableDraft draft = {
-        .header = {[HEADER_SESSION_END] = SESSION_SECONDS, [HEADER_HOLD] = HOLD_SECONDS, [HEADER_MOST_SHIFTS] = 16,
-                   [HEADER_NEAR_SHARE] = 50000, [HEADER_SHIFT_SHARE] = 500000},
-        .keys = {{30, 80000}, {365, 100000}},
-    };
-    for (uint32_t i = 0; i < contract_count; i++) {
-        const uint32_t contract[CONTRACT_FIELDS] = {PRICE, PRICE, 1, 100000, 200000, 300000, 500000, 30 * i, i + 1,
-                                                    FLAG_WATCHED};
-        memcpy(draft.contracts[i], contract, sizeof contract);
-    }
-    draft_counts(&draft, 2, contract_count);
-    return draft_write_table(&draft, bytes);
+    TableDraft draft = {.keys = {{30, 80000}, {365, 100000}}};
+    return write_table(&draft, 2, contract_count, 30, bytes);
+}
+
+/* A rate of 35,000 for a fifth of a year is an exponent of 7 thousandths. */
+size_t sample_opening(uint8_t *bytes, uint32_t contract_count, bool whole)
+{
+    TableDraft draft = {.keys = {{365, whole ? 35000 : 35001}}};
+    return write_table(&draft, 1, contract_count, 365 / 5, bytes);
 }
 
 /* A price far beyond the limit presses however often the limit has moved. */

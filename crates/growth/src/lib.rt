@@ -90,8 +90,8 @@ fn up_factor(y: Billionths) -> Billionths
     requires { ⌜ y .0 ≤ most-exponent ⌝ }
     ensures { λ r. ⌜ r .0 ≡ up-factor (y .0) ⌝ }
 {
-    if y.0 % 1000000 == 0 {
-        return growth_sheet::up_factor((y.0 / 1000000) as usize);
+    if y.0 % growth_sheet::THOUSANDTH == 0 {
+        return growth_sheet::up_factor((y.0 / growth_sheet::THOUSANDTH) as usize);
     }
     by_series(y)
 }

@@ -1,5 +1,5 @@
-// The desk's sheet of growth factors: one for each whole thousandth that an exponent may be. A whole thousandth is answered by reading it off,
-// which costs no series.
+// The desk's sheet of growth factors, one for each whole thousandth that an exponent may be: what the risk desk checks by hand is what the engine
+// answers with.
 
 ghost use mathlib.Core.Path.{_≡_};
 ghost use Prim.Native.Nat.{_*_, _≤_};
@@ -7,8 +7,11 @@ ghost use Rattle.method.specs.words.Growth.{most-exponent, up-factor};
 ghost use Rattle.growth_sheet.specs.Sheet.{a-thousandth};
 use numbers::Billionths;
 
-// In billionths, `_` where a printed sheet has the decimal point. The layout of the sources wants one a line; specs/Sheet.antt has the same entries
-// ten a line.
+// A thousandth, as an exponent in billionths.
+pub const THOUSANDTH: u64 = 1_000_000;
+
+// In billionths, with `_` where the print has its point. The layout of sources asks for one a line; specs/Sheet.antt has them ten a line, as printed.
+// 32 bits an entry, since the array is laid on the stack at every reading (DECISIONS F19).
 const SHEET: [u32; 501] = [
     // 0
     1_000000000,

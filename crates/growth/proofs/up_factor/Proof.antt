@@ -1,7 +1,6 @@
 -- `growth::up_factor` meets its contract. Assumes nothing.
 use borrow.Author.Needs.{needs}
-use mathlib.Core.Path.{_≡_, ap, _∙_}
-use Prim.Native.Nat.{ℕ, _*_, _/_}
+use mathlib.Core.Path.{ap, _∙_}
 use native.Mathlib.Omega.{arith}
 use Rattle.method.specs.words.Growth.{up-factor}
 use Rattle.growth.proofs.up_factor.Statement.{statement}
@@ -11,10 +10,7 @@ up-factor-requires : tie.Need-up-factor-requires
 up-factor-requires c κs = omega (arith, c .before .before .before .pre)
 
 returns : tie.Need-returns
-returns c =
-    let y = c .before .before .before .before .args .y .0 in
-    let whole : y / 1_000_000 * 1_000_000 ≡ y = omega (arith, c .before .before .if1 .taken) in
-    c .up-factor .ensures ∙ ap up-factor whole
+returns c = c .up-factor .ensures ∙ ap up-factor (omega (arith, c .before .before .if1 .taken))
 
 by-series-requires : tie.Need-by-series-requires
 by-series-requires c κs = search needs
