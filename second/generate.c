@@ -9,6 +9,7 @@
 #include "edges.h"
 #include "input.h"
 #include "random.h"
+#include "thousandths.h"
 
 #include <string.h>
 
@@ -131,14 +132,18 @@ static void make_rates(Random *random, uint32_t *contract)
     contract[CONTRACT_RATE_3] = count_between(random, contract[CONTRACT_RATE_2], 1000000);
 }
 
+static void take_days_of_key(Random *random, const TableDraft *draft, uint32_t *contract)
+{
+    contract[CONTRACT_DAYS_LEFT] = draft->keys[between(random, 0, draft->key_count - 1)][KEY_DAYS];
+}
+
 static void make_width_and_days(Random *random, const TableDraft *draft, uint32_t *contract)
 {
-    uint32_t key = count_between(random, 0, draft->key_count - 1);
     bool ordinary = chance(random, 50);
     contract[CONTRACT_WIDTH_SHARE] = ordinary ? count_between(random, 300000, 600000) : inside(random, 0, MILLION);
     switch (between(random, 0, 4)) {
     case 0: contract[CONTRACT_DAYS_LEFT] = inside(random, 0, MOST_DAYS); break;
-    case 1: contract[CONTRACT_DAYS_LEFT] = draft->keys[key][KEY_DAYS]; break;
+    case 1: take_days_of_key(random, draft, contract); break;
     default: contract[CONTRACT_DAYS_LEFT] = count_between(random, 0, 400); break;
     }
 }
@@ -296,17 +301,25 @@ static TableDraft make_table(Random *random)
     static const int64_t near_zero_percents[] = {0, 30, 30, 100};
     TableDraft draft = {0};
     int64_t near_zero_percent = near_zero_percents[between(random, 0, 3)];
+    bool at_thousandths = chance(random, 20);
     uint32_t key_count = count_between(random, 1, chance(random, 85) ? 4 : MOST_KEYS);
     uint32_t contract_count = make_contract_count(random);
     draft_counts(&draft, key_count, contract_count);
     make_times(random, draft.header);
     make_shares(random, draft.header);
-    make_keys(random, &draft, key_count);
+    if (at_thousandths) {
+        thousandths_draw_keys(random, &draft);
+    } else {
+        make_keys(random, &draft, key_count);
+    }
     make_ids(random, &draft, contract_count);
     for (uint32_t i = 0; i < contract_count; i++) {
         make_prices(random, draft.contracts[i]);
         make_rates(random, draft.contracts[i]);
         make_width_and_days(random, &draft, draft.contracts[i]);
+        if (at_thousandths && chance(random, 80)) {
+            take_days_of_key(random, &draft, draft.contracts[i]);
+        }
         if (chance(random, near_zero_percent)) {
             bring_near_zero(random, &draft, i);
         }

@@ -55,6 +55,8 @@ static const char *const NAMES[TALLY_COUNTS] = {
     [TALLY_LOWER_ACROSS_FROM_ONE] = "lower market bounds across from 1",
     [TALLY_REFUSED_BY_PRICE] = "lines refused by the price's sign",
     [TALLY_REFUSED_AROUND_ZERO] = "refusal 9 around zero",
+    [TALLY_BELOW_THOUSANDTH] = "lines just under a thousandth",
+    [TALLY_ABOVE_THOUSANDTH] = "lines just over a thousandth",
     [TALLY_TICKS_ADDED] = "ticks added",
     [TALLY_QUOTES_REPEATED] = "quotes repeated",
     [TALLY_HELD_QUOTES_REPEATED] = "quotes repeated under a hold",
@@ -68,8 +70,9 @@ static const char *const NAMES[TALLY_COUNTS] = {
 
 /* How many of a thousand generated inputs have to bring it about. Behind it: about how many do, and how many would without
    a step of generate.c, so that each of these demands would fail then. The step is spoil_absence for refusal 15 and
-   spoil_range for 16, the leaps of time for sixteen shifts, damage_limits' bringing contracts around zero for refusal 9, and
-   for the others that contracts are brought near zero. */
+   spoil_range for 16, the leaps of time for sixteen shifts, damage_limits' bringing contracts around zero for refusal 9, keys
+   beside a thousandth for lines just under and over one (thousandths.c), and for the others that contracts are brought near
+   zero. */
 static const uint64_t LEAST_IN_A_THOUSAND[TALLY_COUNTS] = {
     [REFUSED_ABSENT_PRICE] = 200, /* 367, 117 */
     [REFUSED_PRICE_RANGE] = 200, /* 357, 23 */
@@ -80,14 +83,16 @@ static const uint64_t LEAST_IN_A_THOUSAND[TALLY_COUNTS] = {
     [TALLY_LOWER_ACROSS_ZERO] = 50,
     [TALLY_FLOORED_MARKET_NEGATIVE] = 50,
     [TALLY_OTHER_BY_PRICE] = 50,
-    [TALLY_MARKET_AROUND_ZERO] = 300, /* 332, 222 */
-    [TALLY_WIDE_AROUND_ZERO] = 100, /* 175, 41 */
-    [TALLY_MARKET_AT_ZERO] = 130, /* 170, 95 */
-    [TALLY_MARKET_BESIDE_ZERO] = 110, /* 154, 47 */
-    [TALLY_UPPER_ACROSS_FROM_MINUS_ONE] = 15, /* 34, 3 */
-    [TALLY_LOWER_ACROSS_FROM_ONE] = 22, /* 38, 9 */
-    [TALLY_REFUSED_BY_PRICE] = 65, /* 85, 47 */
+    [TALLY_MARKET_AROUND_ZERO] = 300, /* 341, 223 */
+    [TALLY_WIDE_AROUND_ZERO] = 100, /* 176, 36 */
+    [TALLY_MARKET_AT_ZERO] = 130, /* 175, 99 */
+    [TALLY_MARKET_BESIDE_ZERO] = 110, /* 158, 50 */
+    [TALLY_UPPER_ACROSS_FROM_MINUS_ONE] = 15, /* 34, 4 */
+    [TALLY_LOWER_ACROSS_FROM_ONE] = 22, /* 36, 9 */
+    [TALLY_REFUSED_BY_PRICE] = 65, /* 101, 52 */
     [TALLY_REFUSED_AROUND_ZERO] = 12, /* 26, 8 */
+    [TALLY_BELOW_THOUSANDTH] = 13, /* 26, 0 */
+    [TALLY_ABOVE_THOUSANDTH] = 13, /* 33, 0 */
     [TALLY_TICKS_ADDED] = 50,
     [TALLY_QUOTES_REPEATED] = 50,
     [TALLY_HELD_QUOTES_REPEATED] = 50,
@@ -102,6 +107,8 @@ static const uint64_t LEAST_IN_A_THOUSAND[TALLY_COUNTS] = {
 /* The same for every count of a group. Behind it, of the rarest one: about how many do, and how many would without a step
    of generate.c, so that demands of the group would fail then. */
 static const struct { int first; int members; uint64_t least; } GROUPS[] = {
+    {TALLY_THOUSANDTH, THOUSANDTHS_ALONE, 4}, /* 8, and 0 without keys at thousandths, or with none more often than others */
+    {TALLY_THOUSANDTHS, THOUSANDTH_PARTS, 4}, /* 7, and 0 without keys at thousandths */
     {TALLY_FIRST_BAD, EDGES, 1}, /* 2, and 0 if refusal 5 were aimed at no more often than others */
     /* 3, all the rarest those of rates; 0 without bring_rate_to_edge or without raise_rates, 1 without the former's mending. */
     {TALLY_LAST_GOOD, EDGES, 2},
@@ -124,6 +131,12 @@ static uint64_t least_in_a_thousand(int count)
     }
     return LEAST_IN_A_THOUSAND[count];
 }
+
+/* The thousandths that are counted by themselves. */
+static const int THOUSANDTH[THOUSANDTHS_ALONE] = {0, 1, 499, 500};
+
+/* How many thousandths a part of them has. */
+enum { THOUSANDTHS_IN_PART = 50 };
 
 /* Two refusals, the one that is looked for first before the other. */
 static const struct { Refusal first; Refusal other; } PAIR[REFUSAL_PAIRS] = {
@@ -155,7 +168,12 @@ static int number_of(int place)
 static const char *name_of(int count)
 {
     static char name[64];
-    if (in_group(count, TALLY_FIRST_BAD, EDGES)) {
+    if (in_group(count, TALLY_THOUSANDTH, THOUSANDTHS_ALONE)) {
+        snprintf(name, sizeof name, "lines at thousandth %d", THOUSANDTH[count - TALLY_THOUSANDTH]);
+    } else if (in_group(count, TALLY_THOUSANDTHS, THOUSANDTH_PARTS)) {
+        int last = THOUSANDTHS_IN_PART * (count - TALLY_THOUSANDTHS + 1);
+        snprintf(name, sizeof name, "lines at thousandths %d to %d", last - THOUSANDTHS_IN_PART + 1, last);
+    } else if (in_group(count, TALLY_FIRST_BAD, EDGES)) {
         snprintf(name, sizeof name, "first bad: %s", EDGE[count - TALLY_FIRST_BAD].name);
     } else if (in_group(count, TALLY_LAST_GOOD, EDGES)) {
         snprintf(name, sizeof name, "last good: %s", EDGE[count - TALLY_LAST_GOOD].name);
@@ -347,6 +365,35 @@ static void count_near_zero(Tally *one, const Line *opened, const Line *line, co
     one->times[TALLY_REFUSED_BY_PRICE] += refused_by_price(opened, draft_read_field(contract, CONTRACT_WIDTH_SHARE));
 }
 
+/* ---- Exponents ---- */
+
+/* The exponent of a contract in a table that opens. */
+static Billionths exponent_of(const Input *input, const uint8_t *contract)
+{
+    Keys keys = {.count = draft_read_field(input->table, HEADER_KEY_COUNT)};
+    Days days_left = {draft_read_field(contract, CONTRACT_DAYS_LEFT)};
+    for (uint32_t i = 0; i < keys.count; i++) {
+        const uint8_t *key = input->table + HEADER_BYTES + i * KEY_BYTES;
+        keys.line[i] = (Key){{draft_read_field(key, KEY_DAYS)}, {draft_read_field(key, KEY_RATE)}};
+    }
+    return corridor_exponent(corridor_rate(&keys, days_left), days_left);
+}
+
+/* One more or one less in rate x days is 2.7.. billionths in the exponent, which is rounded down. */
+static void count_exponent(Tally *one, Billionths exponent)
+{
+    int64_t thousandth = exponent.billionths / MILLION;
+    int64_t past = exponent.billionths % MILLION;
+    one->times[TALLY_BELOW_THOUSANDTH] += past == MILLION - 3;
+    one->times[TALLY_ABOVE_THOUSANDTH] += past == 2;
+    for (int i = 0; i < THOUSANDTHS_ALONE; i++) {
+        one->times[TALLY_THOUSANDTH + i] += past == 0 && thousandth == THOUSANDTH[i];
+    }
+    if (past == 0 && thousandth > 0) {
+        one->times[TALLY_THOUSANDTHS + (thousandth - 1) / THOUSANDTHS_IN_PART]++;
+    }
+}
+
 /* ---- Refused lines ---- */
 
 /* Whether the line that a table was refused at with 9 has other bounds by the price's sign. By that rule it is refused
@@ -416,6 +463,7 @@ Tally tally_input(const Input *input)
     const uint8_t *contracts = input->table + input->table_length - session.line_count * CONTRACT_BYTES;
     for (uint32_t i = 0; i < session.line_count; i++) {
         count_near_zero(&one, &opened.lines[i], &session.lines[i], contracts + i * CONTRACT_BYTES);
+        count_exponent(&one, exponent_of(input, contracts + i * CONTRACT_BYTES));
         count_edges(&one, contracts + i * CONTRACT_BYTES);
     }
     return one;

@@ -13,7 +13,10 @@ enum {
     FIELDS_AT_FAULT = CONTRACT_FIELDS - 1,
     FIELDS_BEFORE_ANOTHER = FIELDS_AT_FAULT - 1,
     /* The pairs of refusals that one event can be up for. */
-    REFUSAL_PAIRS = 19
+    REFUSAL_PAIRS = 19,
+    /* The thousandths that are counted by themselves, and the parts of 1 to 500, fifty each. */
+    THOUSANDTHS_ALONE = 4,
+    THOUSANDTH_PARTS = 10
 };
 
 /* What is counted. The refusals stand first, at their own numbers. */
@@ -56,6 +59,12 @@ typedef enum {
     TALLY_LOWER_ACROSS_FROM_ONE,
     TALLY_REFUSED_BY_PRICE,
     TALLY_REFUSED_AROUND_ZERO,
+    /* From here on lines by their exponents: at whole thousandths, with some by themselves, and all but 0 in parts of fifty;
+       and where rate x days is one less or one more than at a thousandth. */
+    TALLY_THOUSANDTH,
+    TALLY_THOUSANDTHS = TALLY_THOUSANDTH + THOUSANDTHS_ALONE,
+    TALLY_BELOW_THOUSANDTH = TALLY_THOUSANDTHS + THOUSANDTH_PARTS,
+    TALLY_ABOVE_THOUSANDTH,
     /* Of each edge that a table was refused with 5 for the first bad value there, or opened with the last good one. */
     TALLY_FIRST_BAD,
     TALLY_LAST_GOOD = TALLY_FIRST_BAD + EDGES,
