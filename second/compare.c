@@ -3,8 +3,8 @@
  * linked as a library, and holds their answers together. It also adds free events to each input (thickened.h) and
  * holds each engine to its own answers without them.
  *
- *   compare gate FILE..   generated inputs of a fixed seed, and then the files. Fails at any difference, and
- *                         where too few inputs brought something about.
+ *   compare gate FILE..   generated inputs of a fixed seed, and then the files; then the inputs at all whole thousandths and
+ *                         beside them (sweep.h). Fails at any difference, and where too few inputs brought something about.
  *   compare long SEED     generated inputs without end. Stops at the first difference and keeps its input.
  *
  * What is tried on an input depends on its bytes alone, so that a kept one shows its difference again.
@@ -12,6 +12,7 @@
 #include "generate.h"
 #include "random.h"
 #include "rows.h"
+#include "sweep.h"
 #include "tally.h"
 #include "text.h"
 #include "thickened.h"
@@ -44,6 +45,7 @@ typedef enum {
     COMPARED_THICKENED_LIBRARY,
     COMPARED_THICKENED_SECOND,
     COMPARED_INPUT,
+    COMPARED_SWEEP,
     COMPARISONS
 } Comparison;
 
@@ -57,6 +59,7 @@ static const char *const NAMES[COMPARISONS] = {
     [COMPARED_THICKENED_LIBRARY] = "shift and closing rows with and without free events",
     [COMPARED_THICKENED_SECOND] = "second engine's shift lines and session with and without free events",
     [COMPARED_INPUT] = "input untouched",
+    [COMPARED_SWEEP] = "rows at all whole thousandths and beside them",
 };
 
 /* The numbers that an engine wrote. The guards lie beyond the longest room. */
@@ -306,6 +309,27 @@ static void take_file(Result *result, const char *name, uint64_t number)
     take(result, bytes, length, name, number);
 }
 
+/* ---- The sweep ---- */
+
+/* Only the first difference is told. An answer that is short on both sides is one too, since it shows nothing. */
+static void take_sweep(Result *result)
+{
+    static Trial trial;
+    uint8_t bytes[SWEEP_BYTES];
+    for (int number = 0; number < SWEEP_INPUTS; number++) {
+        Billionths exponent = sweep_input(number, bytes);
+        run_both(&trial, input_of(bytes, SWEEP_BYTES), MOST_NUMBERS);
+        if (same_rows(&trial) && trial.second.count == SWEEP_NUMBERS) {
+            continue;
+        }
+        if (result->differ[COMPARED_SWEEP] == 0) {
+            printf("difference at exponent %" PRId64 " of the sweep\n", exponent.billionths);
+            tell_rows(&trial);
+        }
+        result->differ[COMPARED_SWEEP]++;
+    }
+}
+
 /* ---- The two forms ---- */
 
 static bool good_count(const char *name, uint64_t seen, uint64_t least, uint64_t most)
@@ -341,8 +365,9 @@ static bool run_gate(int file_count, char **files)
     for (int i = 0; i < file_count; i++) {
         take_file(&result, files[i], (uint64_t)i);
     }
+    take_sweep(&result);
     tally_print(&result.total, TALLY_FIRST);
-    printf("%" PRIu64 " inputs compared, %d of them files\n", result.inputs, file_count);
+    printf("%" PRIu64 " inputs compared, %d of them files; %d more in the sweep\n", result.inputs, file_count, SWEEP_INPUTS);
     return judge(&result);
 }
 

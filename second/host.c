@@ -4,12 +4,14 @@
  * refused. It also adds free events to each input (thickened.h), which have to leave every number of that memory as it is
  * without them. It fails at any difference, and where too few inputs bring a field, a refusal or an added event to the test.
  *
- *   host FILE..     generated inputs of a fixed seed, and then the files
+ *   host FILE..     generated inputs of a fixed seed, and then the files; then the inputs at all whole thousandths and beside
+ *                   them (sweep.h)
  */
 #include "generate.h"
 #include "random.h"
 #include "rows.h"
 #include "sample.h"
+#include "sweep.h"
 #include "tally.h"
 #include "text.h"
 #include "thickened.h"
@@ -42,6 +44,7 @@ typedef enum {
     COMPARED_THICKENED_SECOND,
     COMPARED_DAMAGE,
     COMPARED_NO_SESSION,
+    COMPARED_SWEEP,
     COMPARISONS
 } Comparison;
 
@@ -62,6 +65,7 @@ static const char *const NAMES[COMPARISONS] = {
     [COMPARED_THICKENED_SECOND] = "second engine's shift lines and session with and without free events",
     [COMPARED_DAMAGE] = "damaged memory refused, and left as it was",
     [COMPARED_NO_SESSION] = "memory without a session refused, after a refused table too, and left as it was",
+    [COMPARED_SWEEP] = "rows at all whole thousandths and beside them",
 };
 
 /* The rows so far, and how many events they answer. */
@@ -578,6 +582,25 @@ static void take_file(const char *name, uint64_t number)
     take(bytes, length, number);
 }
 
+/* An answer that is short on both sides is a difference too, since it shows nothing. */
+static void take_sweep(void)
+{
+    static Answer second;
+    static Answer events;
+    uint8_t bytes[SWEEP_BYTES];
+    sundewcup_session *session = make_session();
+    for (int number = 0; number < SWEEP_INPUTS; number++) {
+        sweep_input(number, bytes);
+        Input input = input_of(bytes, SWEEP_BYTES);
+        second.count = rows_run(&input, second.numbers, MOST_NUMBERS);
+        run_events(session, &input, &events);
+        expect(COMPARED_SWEEP, second.count == SWEEP_NUMBERS && events.count == SWEEP_NUMBERS
+                                   && memcmp(second.numbers, events.numbers, SWEEP_NUMBERS * sizeof(int64_t)) == 0);
+        ask_reports(session, &input);
+    }
+    free(session);
+}
+
 /* Each comparison over all inputs counts for one, and so does each thing that enough inputs brought about; and one says that
    a session has the length of the header's. */
 static bool judge(void)
@@ -609,6 +632,7 @@ int main(int count, char **words)
     }
     take_places();
     take_unfilled();
+    take_sweep();
     expect(COMPARED_DAMAGE, damaged_sessions > opened_sessions / 4);
     expect(COMPARED_NO_SESSION, refused_tables >= INPUTS_FOR_EACH_COUNT);
     tally_print(&total, TALLY_FIRST_FAULT);
