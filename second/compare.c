@@ -3,8 +3,9 @@
  * linked as a library, and holds their answers together. It also adds free events to each input (thickened.h) and
  * holds each engine to its own answers without them.
  *
- *   compare gate FILE..   generated inputs of a fixed seed, and then the files; then the inputs at all whole thousandths and
- *                         beside them (sweep.h). Fails at any difference, and where too few inputs brought something about.
+ *   compare gate FILE..   generated inputs of a fixed seed, the files, and the inputs at all whole thousandths and
+ *                         beside them (sweep.h). Fails at any difference, and where too few inputs brought something
+ *                         about.
  *   compare long SEED     generated inputs without end. Stops at the first difference and keeps its input.
  *
  * What is tried on an input depends on its bytes alone, so that a kept one shows its difference again.
@@ -367,7 +368,8 @@ static bool run_gate(int file_count, char **files)
     }
     take_sweep(&result);
     tally_print(&result.total, TALLY_FIRST);
-    printf("%" PRIu64 " inputs compared, %d of them files; %d more in the sweep\n", result.inputs, file_count, SWEEP_INPUTS);
+    printf("%" PRIu64 " inputs compared, %d of them files; %d more in the sweep\n", result.inputs, file_count,
+           SWEEP_INPUTS);
     return judge(&result);
 }
 

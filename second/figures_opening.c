@@ -6,6 +6,7 @@
 
 #include "checks.h"
 #include "sample.h"
+#include "thousandths.h"
 
 #include <string.h>
 
@@ -234,6 +235,94 @@ static void figures_beside_cap(void)
     }
 }
 
+/*
+ * At whole thousandths, and one billionth beside one. The terms:
+ *
+ *     1,000,000   10^9 +   1,000,000 +         500
+ *    99,999,999   10^9 +  99,999,999 +   4,999,999 +    166,666 +     4,166 +      83 +      1
+ *   100,000,000   10^9 + 100,000,000 +   5,000,000 +    166,666 +     4,166 +      83 +      1
+ *   100,000,001   10^9 + 100,000,001 +   5,000,000 +    166,666 +     4,166 +      83 +      1
+ *   499,000,000   10^9 + 499,000,000 + 124,500,500 + 20,708,583 + 2,583,395 + 257,822 + 21,442 + 1,528 + 95 + 5
+ *   500,000,000   10^9 + 500,000,000 + 125,000,000 + 20,833,333 + 2,604,166 + 260,416 + 21,701 + 1,550 + 96 + 5
+ */
+static void figures_of_factors_at_thousandths(void)
+{
+    static const struct { const char *name; int64_t exponent, up_factor, down_factor; } factors[] = {
+        {"factors at thousandth 0", 0, 1000000000, 1000000000},
+        {"factors at thousandth 1", 1000000, 1001000500, 999000499},
+        {"factors a billionth under thousandth 100", 99999999, 1105170914, 904837421},
+        {"factors at thousandth 100", 100000000, 1105170916, 904837419},
+        {"factors a billionth over thousandth 100", 100000001, 1105170917, 904837418},
+        {"factors at thousandth 499", 499000000, 1647073370, 607137495},
+        {"factors at thousandth 500", 500000000, 1648721267, 606530661},
+    };
+    for (size_t i = 0; i < sizeof factors / sizeof factors[0]; i++) {
+        Billionths up = corridor_up_factor((Billionths){factors[i].exponent});
+        check_number(factors[i].name, up.billionths, factors[i].up_factor);
+        check_number(factors[i].name, corridor_down_factor(up).billionths, factors[i].down_factor);
+    }
+}
+
+/*
+ * Lines at a whole thousandth, where rate x days is 365,000 times it, and at the next exponents that a table can have.
+ * Price 100,000,000 and half-width 50,000,000, so that the market bounds are 150,000,000 and 50,000,000; the limits lie
+ * a quarter of the way between the interest bounds, rounded down, from P.
+ *
+ *   rate x days      exponent    up factor       x 150,000,000   down factor   x 50,000,000
+ *       364,999       999,997    1,001,000,496   150,150,074.4   999,000,503   49,950,025.15
+ *       365,000     1,000,000    1,001,000,500   150,150,075     999,000,499   49,950,024.95
+ *       365,001     1,000,002    1,001,000,502   150,150,075.3   999,000,498   49,950,024.9
+ *    36,499,997    99,999,991    1,105,170,906   165,775,635.9   904,837,427   45,241,871.35
+ *    36,500,000   100,000,000    1,105,170,916   165,775,637.4   904,837,419   45,241,870.95
+ *    36,500,002   100,000,005    1,105,170,921   165,775,638.15  904,837,415   45,241,870.75
+ *   182,134,998   498,999,994    1,647,073,360   247,061,004     607,137,498   30,356,874.9
+ *   182,135,000   499,000,000    1,647,073,370   247,061,005.5   607,137,495   30,356,874.75
+ *   182,135,001   499,000,002    1,647,073,372   247,061,005.8   607,137,494   30,356,874.7
+ */
+static void figures_of_lines_at_thousandths(void)
+{
+    static const uint32_t large[] = {100000000, 100000000, 1, 500000, 500000, 500000};
+    static const struct { const char *name; uint32_t rate, days; const char *answer; } lines[] = {
+        {"line next under thousandth 1", 953, 383, "7 74949988 125050012 49950025 150150075\n"},
+        {"line at thousandth 1", 1000, 365, "7 74949988 125050012 49950024 150150075\n"},
+        {"line next over thousandth 1", 121667, 3, "7 74949987 125050013 49950024 150150076\n"},
+        {"line next under thousandth 100", 439759, 83, "7 69866559 130133441 45241871 165775636\n"},
+        {"line at thousandth 100", 100000, 365, "7 69866558 130133442 45241870 165775638\n"},
+        {"line next over thousandth 100", 744898, 49, "7 69866558 130133442 45241870 165775639\n"},
+        {"line next under thousandth 499", 155538, 1171, "7 45823968 154176032 30356874 247061004\n"},
+        {"line at thousandth 499", 499000, 365, "7 45823967 154176033 30356874 247061006\n"},
+        {"line next over thousandth 499", 154221, 1181, "7 45823967 154176033 30356874 247061006\n"},
+    };
+    for (size_t i = 0; i < sizeof lines / sizeof lines[0]; i++) {
+        TableDraft draft = sample_with_keys(lines[i].days, lines[i].rate, 0, 0, lines[i].days);
+        memcpy(draft.contracts[0], large, sizeof large);
+        check_program(lines[i].name, &draft, 0, lines[i].answer, NULL, 0);
+    }
+}
+
+/* Of the keys by which generator and sweep come to thousandths and beside them: how many lead elsewhere. The next product
+   that has factors in range is at most 7 less or 6 more, so the exponent is at most 20 billionths less or 16 more. */
+static void figures_of_keys_at_thousandths(void)
+{
+    static const struct { Beside beside; int64_t least, most; } ranges[] = {
+        {NEXT_BELOW, -20, -1}, {AT_THOUSANDTH, 0, 0}, {NEXT_ABOVE, 1, 16},
+    };
+    int seen = 0;
+    int wrong = 0;
+    for (int64_t thousandth = 0; thousandth <= LAST_THOUSANDTH; thousandth++) {
+        for (int i = 0; i < 3; i++) {
+            if (thousandths_has(thousandth, ranges[i].beside)) {
+                Key key = thousandths_key(thousandth, ranges[i].beside, (Days){365});
+                int64_t past = corridor_exponent(key.rate, key.days).billionths - 1000000 * thousandth;
+                wrong += past < ranges[i].least || past > ranges[i].most;
+                seen++;
+            }
+        }
+    }
+    check_number("keys at and beside all thousandths", seen, 1501);
+    check_number("keys that lead elsewhere", wrong, 0);
+}
+
 void opening_figures(void)
 {
     figures_of_divisions();
@@ -246,4 +335,7 @@ void opening_figures(void)
     figures_of_cap_by_days();
     figures_of_cap();
     figures_beside_cap();
+    figures_of_factors_at_thousandths();
+    figures_of_lines_at_thousandths();
+    figures_of_keys_at_thousandths();
 }

@@ -4,8 +4,8 @@
  * refused. It also adds free events to each input (thickened.h), which have to leave every number of that memory as it is
  * without them. It fails at any difference, and where too few inputs bring a field, a refusal or an added event to the test.
  *
- *   host FILE..     generated inputs of a fixed seed, and then the files; then the inputs at all whole thousandths and beside
- *                   them (sweep.h)
+ *   host FILE..     generated inputs of a fixed seed, the files, and the inputs at all whole thousandths and beside them
+ *                   (sweep.h)
  */
 #include "generate.h"
 #include "random.h"

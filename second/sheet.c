@@ -1,21 +1,23 @@
 /*
- * sheet.c: the program "sheet PAGE". It reads the desk's page of growth factors and holds every factor on it to this engine,
- * which has no table and works all of them out by the series. After some prose the page has two sheets, and nothing else:
+ * sheet.c: the program "sheet PAGE". It reads the desk's page of growth factors and holds every factor on it to this
+ * engine, which has no table and works all of them out by the series. After some prose the page has two sheets, and
+ * nothing else:
  *
  *   ## Up
- *                                                       an empty line
+ *                                                     an empty line
  *   ```
  *                 +0           +1 ..           +9
- *     0  1.000000000  1.001000500 ..  1.009040621       the thousandth at the margin, and ten factors; behind 500 one
+ *     0  1.000000000  1.001000500 ..  1.009040621     the thousandth at the margin, and ten factors; with 500 one
  *    ..
  *   ```
- *                                                       an empty line
- *   ## Down                                             and all of it once more
+ *                                                     an empty line
+ *   ## Down                                           and all of it once more
  *
- * Each factor counts for one, and so does the form of the page. What is not of that form is told and ends the reading, since
- * no factor after it would have a certain place.
+ * Each factor counts for one, and so does the form of the page. What is not of that form is told and ends the reading,
+ * since no factor after it would have a certain place.
  */
 #include "checks.h"
+#include "thousandths.h"
 
 #include <inttypes.h>
 #include <stdio.h>
@@ -24,7 +26,6 @@
 
 enum {
     PAGE_BYTES = 65536,
-    LAST_THOUSANDTH = 500,
     FACTORS_IN_LINE = 10,
     MARGIN_BYTES = 3,
     FACTOR_BYTES = 13
@@ -81,7 +82,8 @@ static void check_factor(Side side, int thousandth, const char *text)
     char seen[FACTOR_BYTES + 1] = "";
     char expected[64];
     snprintf(name, sizeof name, "sheet %s, exponent 0.%03d", NAMES[side], thousandth);
-    snprintf(expected, sizeof expected, "%3" PRId64 ".%09" PRId64, factor.billionths / BILLION, factor.billionths % BILLION);
+    snprintf(expected, sizeof expected, "%3" PRId64 ".%09" PRId64, factor.billionths / BILLION,
+             factor.billionths % BILLION);
     memcpy(seen, text, FACTOR_BYTES);
     check_text(name, seen, expected);
 }

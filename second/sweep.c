@@ -1,15 +1,16 @@
 /*
- * sweep.c: one key, three contracts of its days, and events that bring about all shifts. How small a change of a factor the
- * closing rows show:
+ * sweep.c: one key, three contracts of its days, and events that bring about all shifts. How small a change of a factor
+ * the closing rows show:
  *
- * The up factor: any. Contract 1 has the greatest price, half-width and half-move, 10^8, 10^8 and 5 x 10^7 steps, and a bid at
- * the greatest price presses until sixteen shifts up are made. Its upper market bound is then 10^8 + 10^8 + 16 x 10^8 =
- * 1.8 x 10^9, so that one billionth of the up factor is 1.8 steps of the upper interest bound.
+ * The up factor: any. Contract 1 has the greatest price, half-width and half-move, 10^8, 10^8 and 5 x 10^7 steps, and a
+ * bid at the greatest price presses until sixteen shifts up are made. Its upper market bound is then 10^8 + 10^8 +
+ * 16 x 10^8 = 1.8 x 10^9, so that one billionth of the up factor is 1.8 steps of the upper interest bound.
  *
- * The down factor: any, but at the exponents 0 and 2 any of eleven billionths or more. It is multiplied with 10^8 at most, since
- * shifts move a market bound that takes it toward zero or not at all; so one billionth of it is a tenth of a step. Contracts 2
- * and 3 have lower market bounds where that tenth leads across a whole step, for a greater and for a smaller factor. At 0 and 2
- * the factor is so close to one that no bound does it for a greater one, and at 2 none for a smaller one either.
+ * The down factor: any, but at the exponents 0 and 2 any of eleven billionths or more. It is multiplied with 10^8 at
+ * most, since shifts move a market bound that takes it toward zero or not at all; so one billionth of it is a tenth of
+ * a step. Contracts 2 and 3 have lower market bounds where that tenth leads across a whole step, for a greater and for a
+ * smaller factor. At 0 and 2 the factor is so close to one that no bound does it for a greater one, and at 2 none for a
+ * smaller one either.
  */
 #include "sweep.h"
 
@@ -18,10 +19,14 @@ static const uint32_t MILLION = 1000000;
 static const uint32_t MOST_NEAR_SHARE = 500000;
 static const uint32_t MOST_TABLE_PRICE = 100000000;
 
-/* A half-width of 2 steps is the least one that has a half-move. More bounds than these no exponent has to try but 0 and 2. */
-enum { LEAST_HALF_WIDTH = 2, BOUNDS_TRIED = 12000 };
+enum {
+    /* In steps: a narrower line has no half-move. */
+    LEAST_HALF_WIDTH = 2,
+    /* Enough for all exponents but 0 and 2, where no number is. */
+    BOUNDS_TRIED = 12000
+};
 
-/* The greatest lower market bound whose interest bound is another one where the factor is. */
+/* The greatest lower market bound whose interest bound tells the two factors apart. */
 static uint32_t telling_bound(Billionths factor, Billionths other)
 {
     uint32_t bound = MOST_TABLE_PRICE - LEAST_HALF_WIDTH;

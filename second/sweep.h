@@ -1,7 +1,7 @@
 /*
- * sweep.h: inputs at every whole thousandth that an exponent may be, and at the next exponents below and above it that a table
- * can have (thousandths.h), whose answers show if a factor is another by one billionth. An engine that has factors of some
- * exponents written down can be held to one that has none, entry by entry and beside each.
+ * sweep.h: inputs at every whole thousandth that an exponent may be, and at the next exponents below and above it that
+ * a table can have (thousandths.h), whose answers show if a factor is another by one billionth. So an engine that has
+ * factors of some exponents written down is held to one that works out all of them, at each of these and beside it.
  */
 #ifndef SWEEP_H
 #define SWEEP_H

@@ -24,6 +24,11 @@ static bool find_factors(int64_t product, Days from, Key *key)
     return false;
 }
 
+bool thousandths_has(int64_t thousandth, Beside beside)
+{
+    return beside == NEXT_BELOW ? thousandth > 0 : beside == AT_THOUSANDTH || thousandth < LAST_THOUSANDTH;
+}
+
 Key thousandths_key(int64_t thousandth, Beside beside, Days from)
 {
     int64_t product = PRODUCT * thousandth + beside;
@@ -41,7 +46,7 @@ static Key draw_key(Random *random)
     bool at_end = chance(random, 30);
     int64_t thousandth = at_end ? ends[between(random, 0, 3)] : between(random, 0, LAST_THOUSANDTH);
     Beside beside = chance(random, 50) ? AT_THOUSANDTH : chance(random, 50) ? NEXT_BELOW : NEXT_ABOVE;
-    if ((thousandth == 0 && beside == NEXT_BELOW) || (thousandth == LAST_THOUSANDTH && beside == NEXT_ABOVE)) {
+    if (!thousandths_has(thousandth, beside)) {
         beside = AT_THOUSANDTH;
     }
     return thousandths_key(thousandth, beside, (Days){between(random, 1, MOST_DAYS)});
