@@ -3,7 +3,7 @@
  * engine is timed three times: a whole session in one call, and as a host has it, one event a call, without and with the
  * test of its memory. All write the same rows into the same kind of buffer, in turn, and the rows are compared. Then both
  * open a table with no events, once where every exponent is a whole thousandth, which the proved engine reads off a sheet,
- * and once where none is.
+ * and once where none is but the first.
  */
 #include "median.h"
 #include "rows.h"

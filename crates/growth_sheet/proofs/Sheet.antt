@@ -32,6 +32,7 @@ right-at k (x ∷ xs) e (suc i) h =
     let rest = right-at (suc k) xs (both (right k x) (right-from (suc k) xs) e .1) i (le-of-suc-le-suc h) in
     rest ∙ ap (λ (n : ℕ). up-factor (n * a-thousandth)) (omega arith)
 
+-- where it is refused, `second/check sheet` names the wrong entry of the page that is printed from the code
 all-right : right-from 0 sheet ≡ true
 unfolding right-from sheet up-factor series term
 all-right = refl

@@ -1,5 +1,5 @@
--- The desk's sheet of growth factors, as it is printed: ten a line, the thousandth that a line begins with at the margin, and `_` for the decimal
--- point. Nothing here has to be believed: each entry is proved to be the series' own value (METHOD 6.5).
+-- The desk's sheet of growth factors, as it is printed: ten a line, `_` for the decimal point, and at the end of a line the thousandth that it begins
+-- with. Nothing here has to be believed: each entry is proved to be the series' own value (METHOD 6.5).
 use mathlib.Core.List.{List, [], _∷_}
 use Prim.Native.Nat.{ℕ}
 
@@ -9,6 +9,7 @@ a-thousandth = 1_000_000
 
 unfoldable pub sheet : List ℕ
 sheet =
+    --       +0            +1            +2            +3            +4            +5            +6            +7            +8            +9
     1_000000000 ∷ 1_001000500 ∷ 1_002002001 ∷ 1_003004504 ∷ 1_004008010 ∷ 1_005012520 ∷ 1_006018036 ∷ 1_007024557 ∷ 1_008032085 ∷ 1_009040621 ∷  -- 0
     1_010050166 ∷ 1_011060721 ∷ 1_012072288 ∷ 1_013084867 ∷ 1_014098458 ∷ 1_015113064 ∷ 1_016128684 ∷ 1_017145321 ∷ 1_018162976 ∷ 1_019181648 ∷  -- 10
     1_020201339 ∷ 1_021222051 ∷ 1_022243783 ∷ 1_023266538 ∷ 1_024290317 ∷ 1_025315120 ∷ 1_026340948 ∷ 1_027367802 ∷ 1_028395683 ∷ 1_029424593 ∷  -- 20
