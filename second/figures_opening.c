@@ -1,12 +1,13 @@
 /*
  * figures_opening.c: the numbers that a session opens with: divisions, rates, factors, half-widths, bounds and limits, and the
- * caps on them. METHOD 25 and DECISIONS A1 and A2.
+ * caps on them. METHOD 25 and DECISIONS A1 and A2. Also what the sweep shows of factors (sweep.h).
  */
 #include "figures.h"
 
 #include "checks.h"
+#include "input.h"
 #include "sample.h"
-#include "thousandths.h"
+#include "sweep.h"
 
 #include <string.h>
 
@@ -323,6 +324,55 @@ static void figures_of_keys_at_thousandths(void)
     check_number("keys that lead elsewhere", wrong, 0);
 }
 
+/* The session as one of the sweep's inputs leaves it. */
+static Session session_of_sweep(int number)
+{
+    uint8_t bytes[SWEEP_BYTES];
+    Session session;
+    EventAnswer answer;
+    sweep_input(number, bytes);
+    Input input = input_of(bytes, SWEEP_BYTES);
+    corridor_open(input.table, input.table_length, &session);
+    for (size_t at = 0; at < input.events_length; at += EVENT_BYTES) {
+        corridor_event(&session, input.events + at, EVENT_BYTES, &answer);
+    }
+    return session;
+}
+
+/* Whether the line's upper interest bound tells its up factor from one that is more by this, or less. */
+static bool tells_up_factor(const Line *line, int64_t more)
+{
+    int64_t market = line->centre.steps + line->half_width[0].steps;
+    int64_t with_factor = ceiling_division(market * line->up_factor.billionths, 1000000000);
+    int64_t with_other = ceiling_division(market * (line->up_factor.billionths + more), 1000000000);
+    return line->interest.upper.steps == with_factor && with_factor != with_other;
+}
+
+/* The same of its lower interest bound and its down factor. */
+static bool tells_down_factor(const Line *line, int64_t more)
+{
+    int64_t market = line->centre.steps - line->half_width[0].steps;
+    int64_t with_factor = floor_division(market * line->down_factor.billionths, 1000000000);
+    int64_t with_other = floor_division(market * (line->down_factor.billionths + more), 1000000000);
+    return line->interest.lower.steps == with_factor && with_factor != with_other;
+}
+
+/* Of 1,501 inputs, for a factor that is greater by one billionth and for one that is smaller, 3,002: how many the sweep's
+   bounds tell, so that a sweep which has lost its sharpness does not pass. Of down factors the missing three are the greater
+   one at exponent 0 and both at 2. */
+static void figures_of_sweep(void)
+{
+    int up_factors = 0;
+    int down_factors = 0;
+    for (int number = 0; number < SWEEP_INPUTS; number++) {
+        Session session = session_of_sweep(number);
+        up_factors += tells_up_factor(&session.lines[0], 1) + tells_up_factor(&session.lines[0], -1);
+        down_factors += tells_down_factor(&session.lines[1], 1) + tells_down_factor(&session.lines[2], -1);
+    }
+    check_number("sweep bounds that tell an up factor", up_factors, 3002);
+    check_number("sweep bounds that tell a down factor", down_factors, 2999);
+}
+
 void opening_figures(void)
 {
     figures_of_divisions();
@@ -338,4 +388,5 @@ void opening_figures(void)
     figures_of_factors_at_thousandths();
     figures_of_lines_at_thousandths();
     figures_of_keys_at_thousandths();
+    figures_of_sweep();
 }

@@ -22,11 +22,12 @@ static const uint32_t MOST_TABLE_PRICE = 100000000;
 enum {
     /* In steps: a narrower line has no half-move. */
     LEAST_HALF_WIDTH = 2,
-    /* Enough for all exponents but 0 and 2, where no number is. */
-    BOUNDS_TRIED = 12000
+    /* The most that is needed is 11,017, at exponent 470,000,000. At the exponents 0 and 2 no number is enough. */
+    BOUNDS_TRIED = 20000
 };
 
-/* The greatest lower market bound whose interest bound tells the two factors apart. */
+/* The greatest lower market bound whose interest bound tells the two factors apart. Where none of those tried does, it is
+   one that does not: how many of the sweep do is among the figures (figures_opening.c). */
 static uint32_t telling_bound(Billionths factor, Billionths other)
 {
     uint32_t bound = MOST_TABLE_PRICE - LEAST_HALF_WIDTH;

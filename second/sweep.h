@@ -1,7 +1,8 @@
 /*
  * sweep.h: inputs at every whole thousandth that an exponent may be, and at the next exponents below and above it that
- * a table can have (thousandths.h), whose answers show if a factor is another by one billionth. So an engine that has
- * factors of some exponents written down is held to one that works out all of them, at each of these and beside it.
+ * a table can have (thousandths.h), whose answers show if a factor is another by one billionth, as far as an answer can
+ * show it (sweep.c). So an engine that has factors of some exponents written down is held to one that works out all of
+ * them, at each of these and beside it.
  */
 #ifndef SWEEP_H
 #define SWEEP_H
