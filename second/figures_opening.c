@@ -49,6 +49,10 @@ static void figures_of_factors(void)
     Billionths up = corridor_up_factor((Billionths){100000000});
     check_number("up factor", up.billionths, 1105170916);
     check_number("down factor", corridor_down_factor(up).billionths, 904837419);
+    /* 10^9 + 11,404,109 + 65,026 + 247. */
+    Billionths up_at_45_days = corridor_up_factor((Billionths){11404109});
+    check_number("up factor at 92,500, 45 days", up_at_45_days.billionths, 1011469382);
+    check_number("down factor at 92,500, 45 days", corridor_down_factor(up_at_45_days).billionths, 988660673);
     check_number("up factor at 0", corridor_up_factor((Billionths){0}).billionths, 1000000000);
     check_number("down factor at 0", corridor_down_factor((Billionths){1000000000}).billionths, 1000000000);
 }
@@ -266,33 +270,34 @@ static void figures_of_factors_at_thousandths(void)
 
 /*
  * Lines at a whole thousandth, where rate x days is 365,000 times it, and at the next exponents that a table can have.
- * Price 100,000,000 and half-width 50,000,000, so that the market bounds are 150,000,000 and 50,000,000; the limits lie
- * a quarter of the way between the interest bounds, rounded down, from P.
+ * Price 100,000,000 and half-width 70,000,000, so that the market bounds are 170,000,000 and 30,000,000: with these every
+ * line is another than the one at its thousandth. The limits lie a quarter of the way between the interest bounds, rounded
+ * down, from P.
  *
- *   rate x days      exponent    up factor       x 150,000,000   down factor   x 50,000,000
- *       364,999       999,997    1,001,000,496   150,150,074.4   999,000,503   49,950,025.15
- *       365,000     1,000,000    1,001,000,500   150,150,075     999,000,499   49,950,024.95
- *       365,001     1,000,002    1,001,000,502   150,150,075.3   999,000,498   49,950,024.9
- *    36,499,997    99,999,991    1,105,170,906   165,775,635.9   904,837,427   45,241,871.35
- *    36,500,000   100,000,000    1,105,170,916   165,775,637.4   904,837,419   45,241,870.95
- *    36,500,002   100,000,005    1,105,170,921   165,775,638.15  904,837,415   45,241,870.75
- *   182,134,998   498,999,994    1,647,073,360   247,061,004     607,137,498   30,356,874.9
- *   182,135,000   499,000,000    1,647,073,370   247,061,005.5   607,137,495   30,356,874.75
- *   182,135,001   499,000,002    1,647,073,372   247,061,005.8   607,137,494   30,356,874.7
+ *   rate x days      exponent    up factor       x 170,000,000    down factor   x 30,000,000
+ *       364,999       999,997    1,001,000,496   170,170,084.32   999,000,503   29,970,015.09
+ *       365,000     1,000,000    1,001,000,500   170,170,085      999,000,499   29,970,014.97
+ *       365,001     1,000,002    1,001,000,502   170,170,085.34   999,000,498   29,970,014.94
+ *    36,499,997    99,999,991    1,105,170,906   187,879,054.02   904,837,427   27,145,122.81
+ *    36,500,000   100,000,000    1,105,170,916   187,879,055.72   904,837,419   27,145,122.57
+ *    36,500,002   100,000,005    1,105,170,921   187,879,056.57   904,837,415   27,145,122.45
+ *   182,134,998   498,999,994    1,647,073,360   280,002,471.2    607,137,498   18,214,124.94
+ *   182,135,000   499,000,000    1,647,073,370   280,002,472.9    607,137,495   18,214,124.85
+ *   182,135,001   499,000,002    1,647,073,372   280,002,473.24   607,137,494   18,214,124.82
  */
 static void figures_of_lines_at_thousandths(void)
 {
-    static const uint32_t large[] = {100000000, 100000000, 1, 500000, 500000, 500000};
+    static const uint32_t large[] = {100000000, 100000000, 1, 700000, 700000, 700000};
     static const struct { const char *name; uint32_t rate, days; const char *answer; } lines[] = {
-        {"line next under thousandth 1", 953, 383, "7 74949988 125050012 49950025 150150075\n"},
-        {"line at thousandth 1", 1000, 365, "7 74949988 125050012 49950024 150150075\n"},
-        {"line next over thousandth 1", 121667, 3, "7 74949987 125050013 49950024 150150076\n"},
-        {"line next under thousandth 100", 439759, 83, "7 69866559 130133441 45241871 165775636\n"},
-        {"line at thousandth 100", 100000, 365, "7 69866558 130133442 45241870 165775638\n"},
-        {"line next over thousandth 100", 744898, 49, "7 69866558 130133442 45241870 165775639\n"},
-        {"line next under thousandth 499", 155538, 1171, "7 45823968 154176032 30356874 247061004\n"},
-        {"line at thousandth 499", 499000, 365, "7 45823967 154176033 30356874 247061006\n"},
-        {"line next over thousandth 499", 154221, 1181, "7 45823967 154176033 30356874 247061006\n"},
+        {"line next under thousandth 1", 953, 383, "7 64949983 135050017 29970015 170170085\n"},
+        {"line at thousandth 1", 1000, 365, "7 64949983 135050017 29970014 170170085\n"},
+        {"line next over thousandth 1", 121667, 3, "7 64949982 135050018 29970014 170170086\n"},
+        {"line next under thousandth 100", 439759, 83, "7 59816517 140183483 27145122 187879055\n"},
+        {"line at thousandth 100", 100000, 365, "7 59816517 140183483 27145122 187879056\n"},
+        {"line next over thousandth 100", 744898, 49, "7 59816517 140183483 27145122 187879057\n"},
+        {"line next under thousandth 499", 155538, 1171, "7 34552913 165447087 18214124 280002472\n"},
+        {"line at thousandth 499", 499000, 365, "7 34552913 165447087 18214124 280002473\n"},
+        {"line next over thousandth 499", 154221, 1181, "7 34552913 165447087 18214124 280002474\n"},
     };
     for (size_t i = 0; i < sizeof lines / sizeof lines[0]; i++) {
         TableDraft draft = sample_with_keys(lines[i].days, lines[i].rate, 0, 0, lines[i].days);

@@ -22,7 +22,7 @@ static const uint32_t MOST_TABLE_PRICE = 100000000;
 enum {
     /* In steps: a narrower line has no half-move. */
     LEAST_HALF_WIDTH = 2,
-    /* The most that is needed is 11,017, at exponent 470,000,000. At the exponents 0 and 2 no number is enough. */
+    /* The most that is needed is 11,017, at exponent 470,000,000; where no bound does it (see above), no number is enough. */
     BOUNDS_TRIED = 20000
 };
 
