@@ -92,7 +92,7 @@ static const uint64_t LEAST_IN_A_THOUSAND[TALLY_COUNTS] = {
     [TALLY_REFUSED_BY_PRICE] = 65, /* 101, 52 */
     [TALLY_REFUSED_AROUND_ZERO] = 12, /* 26, 8 */
     [TALLY_BELOW_THOUSANDTH] = 13, /* 26, 0 */
-    [TALLY_ABOVE_THOUSANDTH] = 13, /* 33, 0 */
+    [TALLY_ABOVE_THOUSANDTH] = 13, /* 32, 0 */
     [TALLY_TICKS_ADDED] = 50,
     [TALLY_QUOTES_REPEATED] = 50,
     [TALLY_HELD_QUOTES_REPEATED] = 50,
@@ -107,8 +107,10 @@ static const uint64_t LEAST_IN_A_THOUSAND[TALLY_COUNTS] = {
 /* The same for every count of a group. Behind it, of the rarest one: about how many do, and how many would without a step
    of generate.c, so that demands of the group would fail then. */
 static const struct { int first; int members; uint64_t least; } GROUPS[] = {
-    {TALLY_THOUSANDTH, THOUSANDTHS_ALONE, 4}, /* 8, and 0 without keys at thousandths, or with none more often than others */
-    {TALLY_THOUSANDTHS, THOUSANDTH_PARTS, 4}, /* 7, and 0 without keys at thousandths */
+    /* The end thousandths but 0 and 500, which come up anyhow, 0 where rate or days are 0 and 500 by make_greatest. 8, and 0
+       without keys at thousandths, or with none more often than others. */
+    {TALLY_END_THOUSANDTH + 1, END_THOUSANDTHS - 2, 4},
+    {TALLY_THOUSANDTHS, THOUSANDTH_PARTS, 4}, /* 6, and 1 at most without keys at thousandths, 2 with none drawn in the part */
     {TALLY_FIRST_BAD, EDGES, 1}, /* 2, and 0 if refusal 5 were aimed at no more often than others */
     /* 3, all the rarest those of rates; 0 without bring_rate_to_edge or without raise_rates, 1 without the former's mending. */
     {TALLY_LAST_GOOD, EDGES, 2},
@@ -132,11 +134,23 @@ static uint64_t least_in_a_thousand(int count)
     return LEAST_IN_A_THOUSAND[count];
 }
 
-/* The thousandths that are counted by themselves. */
-static const int THOUSANDTH[THOUSANDTHS_ALONE] = {0, 1, 499, 500};
+/* How many thousandths a part of them has, the end ones among them, which are not counted there. */
+enum { THOUSANDTHS_IN_PART = LAST_THOUSANDTH / THOUSANDTH_PARTS };
 
-/* How many thousandths a part of them has. */
-enum { THOUSANDTHS_IN_PART = 50 };
+/* The place among the end thousandths; where it is none of them, the number of places. */
+static int place_at_end(int64_t thousandth)
+{
+    int place = 0;
+    while (place < END_THOUSANDTHS && END_THOUSANDTH[place] != thousandth) {
+        place++;
+    }
+    return place;
+}
+
+static bool is_end(int64_t thousandth)
+{
+    return place_at_end(thousandth) < END_THOUSANDTHS;
+}
 
 /* Two refusals, the one that is looked for first before the other. */
 static const struct { Refusal first; Refusal other; } PAIR[REFUSAL_PAIRS] = {
@@ -164,15 +178,27 @@ static int number_of(int place)
     return place <= CONTRACT_ID ? place - 1 : place - 2;
 }
 
+static void name_part(char *name, size_t bytes, int part)
+{
+    int first = THOUSANDTHS_IN_PART * part + 1;
+    int last = THOUSANDTHS_IN_PART * (part + 1);
+    while (is_end(first)) {
+        first++;
+    }
+    while (is_end(last)) {
+        last--;
+    }
+    snprintf(name, bytes, "lines at thousandths %d to %d", first, last);
+}
+
 /* The name of a count. That of a group's member is put together, and stands until the next one is asked for. */
 static const char *name_of(int count)
 {
     static char name[64];
-    if (in_group(count, TALLY_THOUSANDTH, THOUSANDTHS_ALONE)) {
-        snprintf(name, sizeof name, "lines at thousandth %d", THOUSANDTH[count - TALLY_THOUSANDTH]);
+    if (in_group(count, TALLY_END_THOUSANDTH, END_THOUSANDTHS)) {
+        snprintf(name, sizeof name, "lines at thousandth %d", (int)END_THOUSANDTH[count - TALLY_END_THOUSANDTH]);
     } else if (in_group(count, TALLY_THOUSANDTHS, THOUSANDTH_PARTS)) {
-        int last = THOUSANDTHS_IN_PART * (count - TALLY_THOUSANDTHS + 1);
-        snprintf(name, sizeof name, "lines at thousandths %d to %d", last - THOUSANDTHS_IN_PART + 1, last);
+        name_part(name, sizeof name, count - TALLY_THOUSANDTHS);
     } else if (in_group(count, TALLY_FIRST_BAD, EDGES)) {
         snprintf(name, sizeof name, "first bad: %s", EDGE[count - TALLY_FIRST_BAD].name);
     } else if (in_group(count, TALLY_LAST_GOOD, EDGES)) {
@@ -386,10 +412,9 @@ static void count_exponent(Tally *one, Billionths exponent)
     int64_t past = exponent.billionths % MILLION;
     one->times[TALLY_BELOW_THOUSANDTH] += past == MILLION - 3;
     one->times[TALLY_ABOVE_THOUSANDTH] += past == 2;
-    for (int i = 0; i < THOUSANDTHS_ALONE; i++) {
-        one->times[TALLY_THOUSANDTH + i] += past == 0 && thousandth == THOUSANDTH[i];
-    }
-    if (past == 0 && thousandth > 0) {
+    if (past == 0 && is_end(thousandth)) {
+        one->times[TALLY_END_THOUSANDTH + place_at_end(thousandth)]++;
+    } else if (past == 0) {
         one->times[TALLY_THOUSANDTHS + (thousandth - 1) / THOUSANDTHS_IN_PART]++;
     }
 }

@@ -7,6 +7,7 @@
 
 #include "edges.h"
 #include "input.h"
+#include "thousandths.h"
 
 enum {
     /* The fields of a contract that refusal 5 can name, and those of them that a later one follows. */
@@ -14,8 +15,7 @@ enum {
     FIELDS_BEFORE_ANOTHER = FIELDS_AT_FAULT - 1,
     /* The pairs of refusals that one event can be up for. */
     REFUSAL_PAIRS = 19,
-    /* The thousandths that are counted by themselves, and the parts of 1 to 500, fifty each. */
-    THOUSANDTHS_ALONE = 4,
+    /* The parts, of the same length, that the thousandths from 1 on are counted in. */
     THOUSANDTH_PARTS = 10
 };
 
@@ -59,10 +59,10 @@ typedef enum {
     TALLY_LOWER_ACROSS_FROM_ONE,
     TALLY_REFUSED_BY_PRICE,
     TALLY_REFUSED_AROUND_ZERO,
-    /* From here on lines by their exponents: at whole thousandths, with some by themselves, and all but 0 in parts of fifty;
+    /* From here on lines by their exponents: at whole thousandths, each of the end ones by itself and all others in parts;
        and where rate x days is one less or one more than at a thousandth. */
-    TALLY_THOUSANDTH,
-    TALLY_THOUSANDTHS = TALLY_THOUSANDTH + THOUSANDTHS_ALONE,
+    TALLY_END_THOUSANDTH,
+    TALLY_THOUSANDTHS = TALLY_END_THOUSANDTH + END_THOUSANDTHS,
     TALLY_BELOW_THOUSANDTH = TALLY_THOUSANDTHS + THOUSANDTH_PARTS,
     TALLY_ABOVE_THOUSANDTH,
     /* Of each edge that a table was refused with 5 for the first bad value there, or opened with the last good one. */

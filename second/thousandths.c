@@ -8,6 +8,8 @@
 static const int64_t MILLION = 1000000;
 static const int64_t MOST_DAYS = 3650;
 
+const int64_t END_THOUSANDTH[END_THOUSANDTHS] = {0, 1, LAST_THOUSANDTH - 1, LAST_THOUSANDTH};
+
 /* Rate x days where the exponent is one thousandth. */
 static const int64_t PRODUCT = 365000;
 
@@ -39,12 +41,11 @@ Key thousandths_key(int64_t thousandth, Beside beside, Days from)
     return key;
 }
 
-/* The ends of the range, and those one from them, are drawn more often than others. */
 static Key draw_key(Random *random)
 {
-    static const int64_t ends[] = {0, 1, LAST_THOUSANDTH - 1, LAST_THOUSANDTH};
     bool at_end = chance(random, 30);
-    int64_t thousandth = at_end ? ends[between(random, 0, 3)] : between(random, 0, LAST_THOUSANDTH);
+    int64_t thousandth
+        = at_end ? END_THOUSANDTH[between(random, 0, END_THOUSANDTHS - 1)] : between(random, 0, LAST_THOUSANDTH);
     Beside beside = chance(random, 50) ? AT_THOUSANDTH : chance(random, 50) ? NEXT_BELOW : NEXT_ABOVE;
     if (!thousandths_has(thousandth, beside)) {
         beside = AT_THOUSANDTH;
