@@ -582,7 +582,7 @@ static void take_file(const char *name, uint64_t number)
     take(bytes, length, number);
 }
 
-/* An answer that is short on both sides is a difference too, since it shows nothing. */
+/* Only the first difference is told. An answer that is short on both sides is one too, since it shows nothing. */
 static void take_sweep(void)
 {
     static Answer second;
@@ -590,12 +590,16 @@ static void take_sweep(void)
     uint8_t bytes[SWEEP_BYTES];
     sundewcup_session *session = make_session();
     for (int number = 0; number < SWEEP_INPUTS; number++) {
-        sweep_input(number, bytes);
+        Billionths exponent = sweep_input(number, bytes);
         Input input = input_of(bytes, SWEEP_BYTES);
         second.count = rows_run(&input, second.numbers, MOST_NUMBERS);
         run_events(session, &input, &events);
-        expect(COMPARED_SWEEP, second.count == SWEEP_NUMBERS && events.count == SWEEP_NUMBERS
-                                   && memcmp(second.numbers, events.numbers, SWEEP_NUMBERS * sizeof(int64_t)) == 0);
+        bool good = second.count == SWEEP_NUMBERS && events.count == SWEEP_NUMBERS
+            && memcmp(second.numbers, events.numbers, SWEEP_NUMBERS * sizeof(int64_t)) == 0;
+        if (!good && !differ[COMPARED_SWEEP]) {
+            printf("difference at exponent %" PRId64 " of the sweep\n", exponent.billionths);
+        }
+        expect(COMPARED_SWEEP, good);
         ask_reports(session, &input);
     }
     free(session);
@@ -636,7 +640,7 @@ int main(int count, char **words)
     expect(COMPARED_DAMAGE, damaged_sessions > opened_sessions / 4);
     expect(COMPARED_NO_SESSION, refused_tables >= INPUTS_FOR_EACH_COUNT);
     tally_print(&total, TALLY_FIRST_FAULT);
-    printf("%d inputs, %d of them files; %zu sessions damaged, %zu tables refused\n", INPUTS + count - 1, count - 1,
-           damaged_sessions, refused_tables);
+    printf("%d inputs, %d of them files; %d more in the sweep; %zu sessions damaged, %zu tables refused\n",
+           INPUTS + count - 1, count - 1, SWEEP_INPUTS, damaged_sessions, refused_tables);
     return judge() ? EXIT_SUCCESS : EXIT_FAILURE;
 }
