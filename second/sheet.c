@@ -13,8 +13,11 @@
  *                                                     an empty line
  *   ## Down                                           and all of it once more
  *
- * Each factor counts for one, and so does the form of the page. What is not of that form is told and ends the reading,
- * since no factor after it would have a certain place.
+ * Each factor counts for one, and so do the form of the page and the number of its right factors. What is not of that form
+ * is told and ends the reading, since no factor after it would have a certain place.
+ *
+ * Then it damages copies of the page. Each has to be refused, since a reading that takes what is wrong says nothing of a
+ * page that it takes.
  */
 #include "checks.h"
 #include "thousandths.h"
@@ -26,6 +29,7 @@
 
 enum {
     PAGE_BYTES = 65536,
+    FACTORS = SIDES * (LAST_THOUSANDTH + 1),
     FACTORS_IN_LINE = 10,
     MARGIN_BYTES = 3,
     FACTOR_BYTES = 13
@@ -42,6 +46,17 @@ static const char HEAD[] = "   "
     "           +0           +1           +2           +3           +4"
     "           +5           +6           +7           +8           +9";
 
+/* Its first end of a line is for a page whose last line has none. */
+static const char ADDED[] = "\n1.000000000\n";
+
+/* What is left of a page, and how many factors so far are right. Of the page given each factor is a check, and what is
+   wrong is told; of a damaged copy nothing is. */
+typedef struct {
+    char *rest;
+    bool given;
+    int right_factors;
+} Reading;
+
 static Billionths factor_at(Side side, int thousandth)
 {
     Billionths up_factor = corridor_up_factor((Billionths){thousandth * MILLION});
@@ -49,33 +64,36 @@ static Billionths factor_at(Side side, int thousandth)
 }
 
 /* Takes the next line off what is left of the page, without its end; NULL where nothing is left. */
-static const char *take_line(char **rest)
+static const char *take_line(Reading *reading)
 {
-    char *line = *rest;
+    char *line = reading->rest;
     size_t length = strcspn(line, "\n");
     if (*line == '\0') {
         return NULL;
     }
-    *rest += length + (line[length] == '\n');
+    reading->rest += length + (line[length] == '\n');
     line[length] = '\0';
     return line;
 }
 
-static bool tell(Side side, const char *wanted, const char *line)
+static bool tell(const Reading *reading, Side side, const char *wanted, const char *line)
 {
-    printf("failed: sheet %s: expected %s, saw %s%s\n", NAMES[side], wanted, line == NULL ? "the end" : "the line\n",
-           line == NULL ? "" : line);
+    if (reading->given) {
+        printf("failed: sheet %s: expected %s, saw %s%s\n", NAMES[side], wanted,
+               line == NULL ? "the end" : "the line\n", line == NULL ? "" : line);
+    }
     return false;
 }
 
-static bool take_exactly(char **rest, Side side, const char *wanted)
+static bool take_exactly(Reading *reading, Side side, const char *wanted)
 {
-    const char *line = take_line(rest);
-    return (line != NULL && strcmp(line, wanted) == 0) || tell(side, *wanted == '\0' ? "an empty line" : wanted, line);
+    const char *line = take_line(reading);
+    return (line != NULL && strcmp(line, wanted) == 0)
+        || tell(reading, side, *wanted == '\0' ? "an empty line" : wanted, line);
 }
 
 /* A factor as text, so that one in another form than digit, point and nine digits is a wrong one. */
-static void check_factor(Side side, int thousandth, const char *text)
+static void check_factor(Reading *reading, Side side, int thousandth, const char *text)
 {
     Billionths factor = factor_at(side, thousandth);
     char name[64];
@@ -85,57 +103,152 @@ static void check_factor(Side side, int thousandth, const char *text)
     snprintf(expected, sizeof expected, "%3" PRId64 ".%09" PRId64, factor.billionths / BILLION,
              factor.billionths % BILLION);
     memcpy(seen, text, FACTOR_BYTES);
-    check_text(name, seen, expected);
+    reading->right_factors += strcmp(seen, expected) == 0;
+    if (reading->given) {
+        check_text(name, seen, expected);
+    }
 }
 
 /* The line that begins with the factor of this thousandth. */
-static bool take_factors(char **rest, Side side, int first)
+static bool take_factors(Reading *reading, Side side, int first)
 {
     int count = first == LAST_THOUSANDTH ? 1 : FACTORS_IN_LINE;
-    const char *line = take_line(rest);
+    const char *line = take_line(reading);
     char margin[16];
     char wanted[96];
     snprintf(margin, sizeof margin, "%*d", MARGIN_BYTES, first);
     snprintf(wanted, sizeof wanted, "the line from exponent 0.%03d on (margin %d, factors %d)", first, first, count);
     if (line == NULL || strlen(line) != (size_t)(MARGIN_BYTES + count * FACTOR_BYTES)
         || strncmp(line, margin, MARGIN_BYTES) != 0) {
-        return tell(side, wanted, line);
+        return tell(reading, side, wanted, line);
     }
     for (int i = 0; i < count; i++) {
-        check_factor(side, first + i, line + MARGIN_BYTES + i * FACTOR_BYTES);
+        check_factor(reading, side, first + i, line + MARGIN_BYTES + i * FACTOR_BYTES);
     }
     return true;
 }
 
 /* All that comes after the heading of a sheet. */
-static bool take_sheet(char **rest, Side side)
+static bool take_sheet(Reading *reading, Side side)
 {
-    bool good = take_exactly(rest, side, "") && take_exactly(rest, side, FENCE) && take_exactly(rest, side, HEAD);
+    bool good = take_exactly(reading, side, "") && take_exactly(reading, side, FENCE) && take_exactly(reading, side, HEAD);
     for (int first = 0; good && first <= LAST_THOUSANDTH; first += FACTORS_IN_LINE) {
-        good = take_factors(rest, side, first);
+        good = take_factors(reading, side, first);
     }
-    return good && take_exactly(rest, side, FENCE);
+    return good && take_exactly(reading, side, FENCE);
 }
 
-static bool take_prose(char **rest)
+static bool take_prose(Reading *reading)
 {
-    const char *line = take_line(rest);
+    const char *line = take_line(reading);
     while (line != NULL && strcmp(line, HEADINGS[SIDE_UP]) != 0) {
-        line = take_line(rest);
+        line = take_line(reading);
     }
-    return line != NULL || tell(SIDE_UP, HEADINGS[SIDE_UP], line);
+    return line != NULL || tell(reading, SIDE_UP, HEADINGS[SIDE_UP], line);
 }
 
-static bool take_end(char **rest)
+static bool take_end(Reading *reading)
 {
-    const char *line = take_line(rest);
-    return line == NULL || tell(SIDE_DOWN, "nothing after it", line);
+    const char *line = take_line(reading);
+    return line == NULL || tell(reading, SIDE_DOWN, "nothing after it", line);
 }
 
-static bool take_page(char *rest)
+/* Says whether the page is of the form. */
+static bool take_page(Reading *reading)
 {
-    return take_prose(&rest) && take_sheet(&rest, SIDE_UP) && take_exactly(&rest, SIDE_DOWN, "")
-        && take_exactly(&rest, SIDE_DOWN, HEADINGS[SIDE_DOWN]) && take_sheet(&rest, SIDE_DOWN) && take_end(&rest);
+    return take_prose(reading) && take_sheet(reading, SIDE_UP) && take_exactly(reading, SIDE_DOWN, "")
+        && take_exactly(reading, SIDE_DOWN, HEADINGS[SIDE_DOWN]) && take_sheet(reading, SIDE_DOWN) && take_end(reading);
+}
+
+/* ---- Damaged copies of a page that is right ---- */
+
+/* Where the line begins that has this thousandth at its margin. */
+static char *line_of(char *page, Side side, int first)
+{
+    char margin[16];
+    snprintf(margin, sizeof margin, "\n%*d ", MARGIN_BYTES, first);
+    return strstr(strstr(page, HEADINGS[side]), margin) + 1;
+}
+
+/* Makes another digit of it, one more or one less. */
+static void change_digit(char *digit)
+{
+    *digit ^= 1;
+}
+
+static void change_up_factor(char *page)
+{
+    change_digit(line_of(page, SIDE_UP, 100) + MARGIN_BYTES + FACTOR_BYTES - 1);
+}
+
+/* The last one of its line. */
+static void change_down_factor(char *page)
+{
+    change_digit(line_of(page, SIDE_DOWN, 490) + MARGIN_BYTES + FACTORS_IN_LINE * FACTOR_BYTES - 1);
+}
+
+/* The last digit of the line over the factors. */
+static void change_head(char *page)
+{
+    change_digit(strstr(page, HEAD) + strlen(HEAD) - 1);
+}
+
+static void change_margin(char *page)
+{
+    change_digit(line_of(page, SIDE_DOWN, 250) + MARGIN_BYTES - 1);
+}
+
+static void drop_line(char *page)
+{
+    char *line = line_of(page, SIDE_UP, 250);
+    const char *next = strchr(line, '\n') + 1;
+    memmove(line, next, strlen(next) + 1);
+}
+
+static void drop_sheet(char *page)
+{
+    *strstr(page, HEADINGS[SIDE_DOWN]) = '\0';
+}
+
+static void add_line(char *page)
+{
+    strcat(page, ADDED);
+}
+
+static const struct { const char *name; void (*damage)(char *page); } DAMAGES[] = {
+    {"another digit in an up factor is refused", change_up_factor},
+    {"another digit in a down factor is refused", change_down_factor},
+    {"another number at the head is refused", change_head},
+    {"another number at the margin is refused", change_margin},
+    {"a page without one of its lines is refused", drop_line},
+    {"a page without the second sheet is refused", drop_sheet},
+    {"a page with a line more is refused", add_line},
+};
+
+static void check_damaged(const char *page)
+{
+    static char copy[PAGE_BYTES + sizeof ADDED];
+    for (size_t i = 0; i < sizeof DAMAGES / sizeof DAMAGES[0]; i++) {
+        Reading reading = {.rest = strcpy(copy, page)};
+        DAMAGES[i].damage(copy);
+        bool whole = take_page(&reading);
+        check_shown(DAMAGES[i].name, !whole || reading.right_factors < FACTORS, true);
+    }
+}
+
+/* ---- The page given ---- */
+
+/* One that is not right has failed, and damage might mend it or find nothing to damage. */
+static void check_page(const char *page)
+{
+    static char copy[PAGE_BYTES];
+    Reading reading = {.rest = strcpy(copy, page), .given = true};
+    bool whole = take_page(&reading);
+    check_shown("the page has two whole sheets and nothing more", whole, true);
+    check_shown("right factors on the page", reading.right_factors, FACTORS);
+    if (whole && reading.right_factors == FACTORS) {
+        check_damaged(page);
+    }
 }
 
 /* Ends the page with a zero byte. False where it has one of its own. */
@@ -162,6 +275,6 @@ int main(int argument_count, char **arguments)
         printf("%s: not readable, too long or no text\n", arguments[1]);
         return EXIT_FAILURE;
     }
-    check_shown("the page has two whole sheets and nothing more", take_page(page), true);
+    check_page(page);
     return checks_told() ? EXIT_SUCCESS : EXIT_FAILURE;
 }
