@@ -11,6 +11,7 @@
 int main(void)
 {
     opening_figures();
+    thousandth_figures();
     table_figures();
     event_figures();
     session_figures();

@@ -5,6 +5,7 @@
 #define FIGURES_H
 
 void opening_figures(void);
+void thousandth_figures(void);
 void table_figures(void);
 void event_figures(void);
 void session_figures(void);

@@ -54,6 +54,16 @@ TableDraft sample_with_growth(int32_t settlement, uint32_t half_width, uint32_t 
     return draft;
 }
 
+TableDraft sample_with_keys(uint32_t days, uint32_t rate, uint32_t second_days, uint32_t second_rate, uint32_t days_left)
+{
+    TableDraft draft = sample();
+    const uint32_t keys[][KEY_FIELDS] = {{days, rate}, {second_days, second_rate}};
+    draft_counts(&draft, second_days == 0 ? 1 : 2, 1);
+    memcpy(draft.keys, keys, sizeof keys);
+    draft.contracts[0][CONTRACT_DAYS_LEFT] = days_left;
+    return draft;
+}
+
 TableDraft sample_near_floor(void)
 {
     TableDraft draft = sample_with_growth(30, 30, 900000, FLAG_WATCHED);

@@ -25,6 +25,9 @@ TableDraft sample_of_two(void);
 /* One contract with the stated price, level 1 half-width (by its spot) and width share, at exponent 10^8. */
 TableDraft sample_with_growth(int32_t settlement, uint32_t half_width, uint32_t width_share, uint32_t flags);
 
+/* The sample with other keys, two at most, and other days left. */
+TableDraft sample_with_keys(uint32_t days, uint32_t rate, uint32_t second_days, uint32_t second_rate, uint32_t days_left);
+
 /* METHOD 25.8: price 30, half-width 30, no growth. */
 TableDraft sample_near_floor(void);
 
