@@ -85,7 +85,7 @@ fn by_series(y: Billionths) -> Billionths
     Billionths(sum)
 }
 
-// A whole thousandth is read off the desk's sheet, any other exponent goes by the series.
+// A whole thousandth is read off the desk's sheet; elsewhere the series is worked out.
 fn up_factor(y: Billionths) -> Billionths
     requires { ⌜ y .0 ≤ most-exponent ⌝ }
     ensures { λ r. ⌜ r .0 ≡ up-factor (y .0) ⌝ }

@@ -99,9 +99,8 @@ edges =
     ∷ figure (closed (pos 45_754_586) (pos 154_245_414) (pos 30_326_533) (pos 247_308_191)) (one 50_000 100_000_000 3_650 500_000 500_000 2 1 [])
     ∷ figure (closed (pos 683) (pos 1_317) (pos 545) (pos 1_814)) (one 249_658 1_000 731 100_000 500_000 2 1 [])
     ∷ figure (map pos (3 ∷ 7 ∷ 1 ∷ 0 ∷ 0 ∷ 0 ∷ [])) (one 106_043 1_000 1_721 100_000 500_000 2 1 [])
-    -- D3. On the desk's sheet, and the next exponent above one that is.
-    ∷ figure (map pos (100_000_000 ∷ 100_000_005 ∷ [])) (map pos (exponent 100_000 365 ∷ exponent 744_898 49 ∷ []))
-    ∷ figure (map pos (1_000_000_000 ∷ 1_105_170_916 ∷ 1_105_170_921 ∷ [])) (map pos (up-factor 0 ∷ up-factor 100_000_000 ∷ up-factor 100_000_005 ∷ []))
+    -- D3. The next exponent above one that is on the desk's sheet, 100,000,000, whose factor is starred.
+    ∷ figure (map pos (100_000_005 ∷ 1_105_170_921 ∷ [])) (map pos (exponent 744_898 49 ∷ up-factor 100_000_005 ∷ []))
     -- D2. Each bound by its own sign. P -10 with the share 950,000: limits 95 and -115, inside their bounds 100 and -122. P 0: both bounds take the
     -- up factor. A market bound of exactly 0 stays 0, and one of -1 or 1 that is carried toward zero comes to 0.
     ∷ figure (pos 95 ∷ negsuc 114 ∷ []) (of-line both-limits (line 100_000 (near-zero (negsuc 9) 950_000)))
