@@ -50,9 +50,12 @@ fn factors() {
     let g = growth::factors(Billionths(0));
     saying::count(b"y 0, up", g.up.0);
     saying::count(b"y 0, down", g.down.0);
-    let h = growth::factors(Billionths(11404109));
-    saying::count(b"y 11,404,109, up", h.up.0);
-    saying::count(b"y 11,404,109, down", h.down.0);
+    let h = growth::factors(Billionths(1));
+    saying::count(b"y 1, up", h.up.0);
+    saying::count(b"y 1, down", h.down.0);
+    let k = growth::factors(Billionths(11404109));
+    saying::count(b"y 11,404,109, up", k.up.0);
+    saying::count(b"y 11,404,109, down", k.down.0);
 }
 
 pub(crate) fn say() {

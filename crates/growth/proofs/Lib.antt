@@ -1,4 +1,4 @@
 pub mod Between
-pub mod Series
+pub mod Summed
 pub mod Search
 pub mod Rates

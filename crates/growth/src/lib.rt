@@ -5,7 +5,7 @@ ghost use Prim.Native.Nat.{_+_, _≤_, _<_};
 ghost use lib.IntN.{pos};
 ghost use lib.ListN.{take};
 ghost use Rattle.method.specs.words.Ranges.{most-keys, largest-rate, most-days};
-ghost use Rattle.method.specs.words.Growth.{between-keys, rate-at, most-exponent, exponent, up-factor, factors-of};
+ghost use Rattle.method.specs.words.Growth.{between-keys, rate-at, most-exponent, exponent, series, up-factor, factors-of};
 ghost use Rattle.growth.specs.Asks.{Neighbours, Searched};
 ghost use Rattle.growth.specs.Found.{found-line};
 use method::Factors;
@@ -69,10 +69,13 @@ pub fn exponent(rate: Millionths, days: u32) -> Billionths
     Billionths((rate.0 as u64) * (days as u64) * 1000 / 365)
 }
 
+// What is added to the series above exponent 0, so that a factor is never short of the exact one.
+const OUTER_PART: u64 = 20;
+
 // The exponential series to its twelfth power, each term rounded down.
-fn by_series(y: Billionths) -> Billionths
+fn series(y: Billionths) -> Billionths
     requires { ⌜ y .0 ≤ most-exponent ⌝ }
-    ensures { λ r. ⌜ r .0 ≡ up-factor (y .0) ⌝ }
+    ensures { λ r. ⌜ r .0 ≡ series (y .0) 12 ⌝ }
 {
     let mut term: u64 = 1000000000;
     let mut sum: u64 = 1000000000;
@@ -85,7 +88,7 @@ fn by_series(y: Billionths) -> Billionths
     Billionths(sum)
 }
 
-// A whole thousandth is read off the desk's sheet; elsewhere the series is worked out.
+// A whole thousandth, and so exponent 0, is read off the desk's sheet; elsewhere the series is worked out.
 fn up_factor(y: Billionths) -> Billionths
     requires { ⌜ y .0 ≤ most-exponent ⌝ }
     ensures { λ r. ⌜ r .0 ≡ up-factor (y .0) ⌝ }
@@ -93,7 +96,8 @@ fn up_factor(y: Billionths) -> Billionths
     if y.0 % growth_sheet::THOUSANDTH == 0 {
         return growth_sheet::up_factor((y.0 / growth_sheet::THOUSANDTH) as usize);
     }
-    by_series(y)
+    let sum = series(y);
+    Billionths(sum.0 + OUTER_PART)
 }
 
 pub fn factors(y: Billionths) -> Factors

@@ -1,4 +1,4 @@
--- Every entry of the sheet is the series' own value: one test over the whole sheet, which is computed, and one lemma. Assumes nothing.
+-- Every entry of the sheet is the method's own up factor: one test over the whole sheet, which is computed, and one lemma. Assumes nothing.
 use mathlib.Core.Path.{_≡_, refl, ap, _∙_}
 use mathlib.Core.Bool.{Bool, true, _&&_}
 use mathlib.Core.List.{List, [], _∷_}
@@ -11,7 +11,7 @@ use lib.ListN.{length, getD}
 use mir.Syntax.{w64}
 use mir.Val.{Fits}
 use Rattle.numbers.proofs.Tests.{both}
-use Rattle.method.specs.words.Growth.{most-exponent, term, series, up-factor}
+use Rattle.method.specs.words.Growth.{most-exponent, term, series, outer-part, up-factor}
 use Rattle.method.proofs.Growth.{up-between}
 use Rattle.growth_sheet.specs.Sheet.{a-thousandth, sheet}
 
@@ -34,7 +34,7 @@ right-at k (x ∷ xs) e (suc i) h =
 
 -- where it is refused, `second/check sheet` names the wrong entry of the page that is printed from the code
 all-right : right-from 0 sheet ≡ true
-unfolding right-from sheet up-factor series term
+unfolding right-from sheet up-factor outer-part series term
 all-right = refl
 
 pub on-sheet : (k : ℕ) → k * a-thousandth ≤ most-exponent → getD sheet k 0 ≡ up-factor (k * a-thousandth)

@@ -16,11 +16,11 @@ use Rattle.numbers.proofs.Linear.{le-or-lt, mul-mono, mul-grows, mul-sinks}
 use Rattle.numbers.proofs.Rounding.{div-mono, floor-mono, floor-exact}
 use Rattle.method.specs.words.Types.{Key}
 use Rattle.method.specs.words.Ranges.{largest-rate, KeysIn}
-use Rattle.method.specs.words.Growth.{between-keys, rate-from, rate-by-keys, rate-at, most-exponent, term, series, up-factor, down-factor, factors-of}
+use Rattle.method.specs.words.Growth.{between-keys, rate-from, rate-by-keys, rate-at, most-exponent, term, series, outer-part, up-factor, down-factor, factors-of}
 use Rattle.method.specs.computed.Rooms.{largest-factor, least-factor}
 use Rattle.method.proofs.Demands.{by-cond}
 
--- ---- the factor rises with the exponent, so that its values at 0 and at the cap bound it
+-- ---- the series rises with the exponent, so that its values at 0 and at the cap bound it
 term-mono : {x y : ℕ} (k : ℕ) → x ≤ y → term x k ≤ term y k
 unfolding term
 term-mono zero h = le-refl 1_000_000_000
@@ -35,13 +35,18 @@ at-zero : 1_000_000_000 ≤ series 0 12
 unfolding series term
 at-zero = lit≤ tt
 
-at-cap : series most-exponent 12 ≤ largest-factor
+at-cap : series most-exponent 12 ≤ 1_649_000_000
 unfolding series term
 at-cap = lit≤ tt
 
+series-between : (y : ℕ) → y ≤ most-exponent → Between 1_000_000_000 1_649_000_000 (series y 12)
+series-between y h = record { least = le-trans at-zero (series-mono 12 zero-le); most = le-trans (series-mono 12 h) at-cap }
+
+-- and leave room for the outer part
 pub up-between : (y : ℕ) → y ≤ most-exponent → Between 1_000_000_000 largest-factor (up-factor y)
-unfolding up-factor
-up-between y h = record { least = le-trans at-zero (series-mono 12 zero-le); most = le-trans (series-mono 12 h) at-cap }
+unfolding up-factor outer-part
+up-between zero h = let r = series-between 0 h in record { least = omega (arith, r); most = omega (arith, r) }
+up-between (suc y) h = let r = series-between (suc y) h in record { least = omega (arith, r); most = omega (arith, r) }
 
 -- ---- 10^18 by a factor between them
 pub down-between : (y : ℕ) → y ≤ most-exponent → Between least-factor 1_000_000_000 (down-factor y)

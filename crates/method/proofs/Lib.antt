@@ -1,6 +1,8 @@
 pub mod Demands
 pub mod Every
 pub mod Growth
+pub mod ExactTerms
+pub mod Outer
 pub mod Bounds
 pub mod Floor
 pub mod Corridor

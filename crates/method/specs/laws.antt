@@ -1,8 +1,9 @@
 -- What follows from the words: proved of every session, so that nothing here has to be believed. It says in other terms what a reader may want
--- to know of the words: that no shift is left out or late, who called for each, and that ticks are free.
+-- to know of the words: that no shift is left out or late, who called for each, that ticks are free, that no interest bound is too narrow.
 pub mod Parted
 pub mod Seen
 pub mod Stages
 pub mod Rule2
 pub mod Rule3
 pub mod Ticks
+pub mod Outer

@@ -1,13 +1,14 @@
--- Figures that pin what no rule pins: the half-widths of all three levels, the exponent's cap from both sides, bounds near zero and across it, and
--- lines that do not press because they are not watched or are frozen. One table under one claim. Assumes nothing.
+-- Figures that pin what no rule pins: the half-widths of all three levels, the exponent's cap from both sides, where the outer part of a factor
+-- tells, bounds near zero and across it, and lines that do not press because they are not watched or are frozen. One table under one claim. Assumes
+-- nothing.
 use mathlib.Core.List.{List, [], _∷_, _++_, map}
 use mathlib.Core.Path.{_≡_, refl}
-use Prim.Native.Nat.{ℕ, _-_}
+use Prim.Native.Nat.{ℕ, _-_, _*_, _/_, _^_}
 use lib.IntN.{ℤ, pos, negsuc}
-use Rattle.method.specs.words.Types.{Contract, Line, steps, millionths}
+use Rattle.method.specs.words.Types.{Contract, Line, Up, Down, steps, millionths}
 use Rattle.method.specs.words.Wire.{word, signed, bit}
 use Rattle.method.specs.words.Layout.{header-of, key-at, contract-at, keys-at, contracts-at}
-use Rattle.method.specs.words.Growth.{between-keys, rate-from, rate-by-keys, rate-at, exponent, term, series, up-factor, down-factor, factors-of}
+use Rattle.method.specs.words.Growth.{between-keys, rate-from, rate-by-keys, rate-at, exponent, term, series, outer-part, up-factor, down-factor, factors-of}
 use Rattle.method.specs.words.Bounds.{factor, interest, outward, bound}
 use Rattle.method.specs.words.Opening.{normal-price, half-width, market-of, half-move, terms-of, corridor-half, corridor, floored, fresh-line}
 use Rattle.method.specs.words.Tables.{opening-state}
@@ -16,6 +17,7 @@ use Rattle.method.specs.told.Refusals.{table-number, field-place, field-
 use Rattle.method.specs.told.Questions.{listed}
 use Rattle.method.specs.told.Rows.{rows-of, rows-from, closing-row, row-numbers, numbers-of}
 use Rattle.method.specs.told.Program.{pieces}
+use Rattle.method.specs.laws.Outer.{factorial, exact-term, exact-sum, exact}
 use Rattle.method.specs.computed.Opening.{field-good, first-bad, id-good, inside-bounds, opened-with, open-line}
 use Rattle.method.specs.computed.Table.{header-good, laid-out, key-good, bad-key, open-lines, open-records, opening}
 use Rattle.method.specs.computed.Head.{most-left}
@@ -24,7 +26,7 @@ use Rattle.method.specs.computed.Shift.{moved, redrawn, moved-line, shif
 use Rattle.method.specs.computed.Event.{read-tick, read-quote, read, in-session, not-crossed, quote-answer, screened, verdict, quoted-line, quoted, applied, next}
 use Rattle.method.specs.computed.Search.{due-of, ahead, sooner, passed, earliest, in-time, next-due, serve, served-by, answer, run, finally}
 use Rattle.method.specs.computed.Program.{session-rows, rows-after, program}
-use Rattle.method.specs.figures.Inputs.{table, tick, bid, ask, contract, line, of-line, bounds, both-limits, Figure, figure}
+use Rattle.method.specs.figures.Inputs.{table, tick, bid, ask, fields, contract, line, of-line, bounds, both-limits, Figure, figure}
 
 -- ---- three levels with rates of their own, at P 1,000 and shift share 500,000
 abbrev levels : ℤ → ℤ → ℕ → ℕ → ℕ → Contract
@@ -63,7 +65,7 @@ plain flags events = one 0 1_000 90 100_000 500_000 flags 1 events
 abbrev low : ℕ → ℕ → List ℕ → List ℤ
 low width flags events = one 0 30 365 1_000_000 width flags 1 events
 
--- ---- near zero: half-width 100 and half-move 25, at the exponent 100,000,000, whose factors are 1.105170916 and 0.904837419
+-- ---- near zero: half-width 100 and half-move 25, at the exponent 100,000,000, whose factors are 1.105170936 and 0.904837403
 abbrev near-zero : ℤ → ℕ → Contract
 near-zero price width = contract price (pos 1_000) 100_000 width 3
 
@@ -95,12 +97,22 @@ edges =
     -- The cap: rate 50,000 at 3,650 days meets it exactly; 249,658 at 731 is 499,999,994; 106,043 at 1,721 is 500,000,008, the least above it that
     -- a table can give.
     ∷ figure (map pos (500_000_000 ∷ 499_999_994 ∷ 500_000_008 ∷ [])) (map pos (exponent 50_000 3_650 ∷ exponent 249_658 731 ∷ exponent 106_043 1_721 ∷ []))
-    ∷ figure (map pos (1_648_721_267 ∷ 606_530_661 ∷ [])) (map pos (up-factor 500_000_000 ∷ down-factor 500_000_000 ∷ []))
-    ∷ figure (closed (pos 45_754_586) (pos 154_245_414) (pos 30_326_533) (pos 247_308_191)) (one 50_000 100_000_000 3_650 500_000 500_000 2 1 [])
+    ∷ figure (map pos (1_648_721_287 ∷ 606_530_653 ∷ [])) (map pos (up-factor 500_000_000 ∷ down-factor 500_000_000 ∷ []))
+    ∷ figure (closed (pos 45_754_585) (pos 154_245_415) (pos 30_326_532) (pos 247_308_194)) (one 50_000 100_000_000 3_650 500_000 500_000 2 1 [])
     ∷ figure (closed (pos 683) (pos 1_317) (pos 545) (pos 1_814)) (one 249_658 1_000 731 100_000 500_000 2 1 [])
     ∷ figure (map pos (3 ∷ 7 ∷ 1 ∷ 0 ∷ 0 ∷ 0 ∷ [])) (one 106_043 1_000 1_721 100_000 500_000 2 1 [])
     -- D3. The next exponent above one that is on the desk's sheet, 100,000,000, whose factor is starred.
-    ∷ figure (map pos (100_000_005 ∷ 1_105_170_921 ∷ [])) (map pos (exponent 744_898 49 ∷ up-factor 100_000_005 ∷ []))
+    ∷ figure (map pos (100_000_005 ∷ 1_105_170_941 ∷ [])) (map pos (exponent 744_898 49 ∷ up-factor 100_000_005 ∷ []))
+    -- M4. Above 0 there is an outer part, at the least exponent too. It carries the upper market bound 26,823 a step further than the series alone
+    -- would, at the exponent 100,000,000, and no smaller one; and the lower one 29,644.
+    ∷ figure (map pos (1_000_000_021 ∷ 999_999_979 ∷ [])) (map pos (up-factor 1 ∷ down-factor 1 ∷ []))
+    ∷ figure (map pos (29_643 ∷ 29_645 ∷ [])) (map (interest Up (up-factor 100_000_000)) (map pos (26_822 ∷ 26_823 ∷ [])))
+    ∷ figure (map pos (29_643 ∷ 29_644 ∷ [])) (map (interest Up (series 100_000_000 12)) (map pos (26_822 ∷ 26_823 ∷ [])))
+    ∷ figure (map pos (26_822 ∷ 26_822 ∷ [])) (map (interest Down (down-factor 100_000_000)) (map pos (29_643 ∷ 29_644 ∷ [])))
+    ∷ figure (map pos (26_822 ∷ 26_823 ∷ [])) (map (interest Down (1_000_000_000_000_000_000 / series 100_000_000 12)) (map pos (29_643 ∷ 29_644 ∷ [])))
+    ∷ figure (map pos (29_645 ∷ 24_089 ∷ [])) (of-line bounds (line 100_000 (fields (pos 26_723) (pos 0) (pos 1_000) 100_000 500_000 365 0)))
+    -- The exact sum at 0 is one, and at 1,000,000,000, far above the cap, the sum of all 12! / k!.
+    ∷ figure (map pos (479_001_600 * 10 ^ 108 ∷ 1_302_061_345 * 10 ^ 108 ∷ [])) (map pos (exact 0 ∷ exact 1_000_000_000 ∷ []))
     -- D2. Each bound by its own sign. P -10 with the share 950,000: limits 95 and -115, inside their bounds 100 and -122. P 0: both bounds take the
     -- up factor. A market bound of exactly 0 stays 0, and one of -1 or 1 that is carried toward zero comes to 0.
     ∷ figure (pos 95 ∷ negsuc 114 ∷ []) (of-line both-limits (line 100_000 (near-zero (negsuc 9) 950_000)))
@@ -136,5 +148,5 @@ edges =
 
 -- Each is what the definitions give.
 pub edges-claim : map (λ f. f .computed) edges ≡ map (λ f. f .printed) edges
-unfolding word signed bit table-number field-place field-number event-number between-keys rate-from rate-by-keys rate-at exponent term series up-factor down-factor factors-of factor interest outward bound field-good first-bad listed id-good normal-price half-width market-of half-move terms-of corridor-half corridor inside-bounds floored fresh-line opened-with open-line header-of key-at contract-at keys-at contracts-at header-good laid-out key-good bad-key opening-state open-lines open-records opening close presses judged judge judge-line moved redrawn moved-line shift-line most-left shifted after read-tick read-quote read in-session not-crossed quote-answer screened verdict quoted-line quoted applied next due-of ahead sooner passed earliest in-time next-due serve served-by answer run finally rows-of rows-from closing-row session-rows pieces rows-after program row-numbers
+unfolding word signed bit table-number field-place field-number event-number between-keys rate-from rate-by-keys rate-at exponent term series outer-part up-factor down-factor factorial exact-term exact-sum factors-of factor interest outward bound field-good first-bad listed id-good normal-price half-width market-of half-move terms-of corridor-half corridor inside-bounds floored fresh-line opened-with open-line header-of key-at contract-at keys-at contracts-at header-good laid-out key-good bad-key opening-state open-lines open-records opening close presses judged judge judge-line moved redrawn moved-line shift-line most-left shifted after read-tick read-quote read in-session not-crossed quote-answer screened verdict quoted-line quoted applied next due-of ahead sooner passed earliest in-time next-due serve served-by answer run finally rows-of rows-from closing-row session-rows pieces rows-after program row-numbers
 edges-claim = refl

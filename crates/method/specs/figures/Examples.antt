@@ -9,7 +9,7 @@ use lib.ListN.{take, drop}
 use Rattle.method.specs.words.Types.{Contract, Up, Down, Given, Line, steps, millionths, State}
 use Rattle.method.specs.words.Wire.{word, signed, bit}
 use Rattle.method.specs.words.Layout.{header-of, key-at, contract-at, table-length, keys-at, contracts-at}
-use Rattle.method.specs.words.Growth.{between-keys, rate-from, rate-by-keys, rate-at, exponent, term, series, up-factor, down-factor, factors-of}
+use Rattle.method.specs.words.Growth.{between-keys, rate-from, rate-by-keys, rate-at, exponent, term, series, outer-part, up-factor, down-factor, factors-of}
 use Rattle.method.specs.words.Bounds.{factor, interest, outward, bound}
 use Rattle.method.specs.words.Opening.{normal-price, half-width, market-of, half-move, terms-of, corridor-half, corridor, floored, fresh-line}
 use Rattle.method.specs.words.Tables.{Opening, opened, refused, opening-state}
@@ -177,7 +177,7 @@ examples =
     ∷ figure (one-closed ++ map pos (4 ∷ 8 ∷ 950 ∷ 1_050 ∷ 900 ∷ 1_100 ∷ [])) (numbers-of (program (sample 1_000 2 both [])))
     -- A11. Beyond 32 bits: the exponent before its cap, and an upper interest bound after sixteen shifts.
     ∷ figure (pos 10_000_000_000 ∷ []) (pos (exponent 1_000_000 3_650) ∷ [])
-    ∷ figure (pos 2_967_698_281 ∷ [])
+    ∷ figure (pos 2_967_698_317 ∷ [])
     (of-line (risen 16) (open-line (millionths 1_000_000) (key 500_000) [] (contract (pos 100_000_000) (pos 1) 1_000_000 0 0)))
     -- A12. The counts say where the table ends: one byte more is a cut event, and to `open` a wrong length; wrong offsets are 1.
     ∷ figure (map pos (2 ∷ 12 ∷ 1 ∷ 0 ∷ 0 ∷ 0 ∷ []) ++ one-closed) (numbers-of (program (sample 1_000 2 one [] ++ (0 ∷ []))))
@@ -249,5 +249,5 @@ examples =
 
 -- Every example is what the definitions give.
 pub examples-claim : map (λ f. f .computed) examples ≡ map (λ f. f .printed) examples
-unfolding word signed bit table-number field-place field-number between-keys rate-from rate-by-keys rate-at exponent term series up-factor down-factor factors-of factor interest outward bound field-good first-bad listed id-good normal-price half-width market-of half-move terms-of corridor-half corridor inside-bounds floored fresh-line opened-with open-line header-of key-at contract-at keys-at contracts-at header-good laid-out key-good bad-key opening-state open-lines open-records opening close presses judged judge judge-line moved redrawn moved-line shift-line most-left shifted after read-tick read-quote read in-session not-crossed quote-answer screened verdict quoted-line quoted applied next due-of ahead sooner passed earliest in-time next-due serve served-by answer run finally rows-of rows-from closing-row session-rows pieces rows-after program row-numbers event-number event-said limits-said place-said line-of limits placed place
+unfolding word signed bit table-number field-place field-number between-keys rate-from rate-by-keys rate-at exponent term series outer-part up-factor down-factor factors-of factor interest outward bound field-good first-bad listed id-good normal-price half-width market-of half-move terms-of corridor-half corridor inside-bounds floored fresh-line opened-with open-line header-of key-at contract-at keys-at contracts-at header-good laid-out key-good bad-key opening-state open-lines open-records opening close presses judged judge judge-line moved redrawn moved-line shift-line most-left shifted after read-tick read-quote read in-session not-crossed quote-answer screened verdict quoted-line quoted applied next due-of ahead sooner passed earliest in-time next-due serve served-by answer run finally rows-of rows-from closing-row session-rows pieces rows-after program row-numbers event-number event-said limits-said place-said line-of limits placed place
 examples-claim = refl

@@ -6,7 +6,7 @@ use lib.IntN.{pos, negsuc}
 use Rattle.method.specs.words.Types.{Key, Contract, millionths}
 use Rattle.method.specs.words.Wire.{word, signed, bit}
 use Rattle.method.specs.words.Layout.{header-of, key-at, contract-at, keys-at, contracts-at}
-use Rattle.method.specs.words.Growth.{between-keys, rate-from, rate-by-keys, rate-at, exponent, term, series, up-factor, down-factor, factors-of}
+use Rattle.method.specs.words.Growth.{between-keys, rate-from, rate-by-keys, rate-at, exponent, term, series, outer-part, up-factor, down-factor, factors-of}
 use Rattle.method.specs.words.Bounds.{factor, interest, outward, bound}
 use Rattle.method.specs.words.Opening.{normal-price, half-width, market-of, half-move, terms-of, corridor-half, corridor, floored, fresh-line}
 use Rattle.method.specs.words.Tables.{opening-state}
@@ -48,7 +48,7 @@ starred =
     -- 25.2: an exponent
     ∷ figure (pos 11_404_109 ∷ []) (pos (exponent 92_500 45) ∷ [])
     -- 25.3: an exponent and its factors
-    ∷ figure (map pos (100_000_000 ∷ 1_105_170_916 ∷ 904_837_419 ∷ []))
+    ∷ figure (map pos (100_000_000 ∷ 1_105_170_936 ∷ 904_837_403 ∷ []))
     (map pos (exponent 100_000 365 ∷ up-factor 100_000_000 ∷ down-factor 100_000_000 ∷ []))
     -- 25.4: no exponent, both factors one
     ∷ figure (map pos (1_000_000_000 ∷ 1_000_000_000 ∷ [])) (map pos (up-factor 0 ∷ down-factor 0 ∷ []))
@@ -74,5 +74,5 @@ starred =
 
 -- Every starred figure is what the definitions give.
 pub starred-claim : map (λ f. f .computed) starred ≡ map (λ f. f .printed) starred
-unfolding word signed bit table-number field-place field-number event-number between-keys rate-from rate-by-keys rate-at exponent term series up-factor down-factor factors-of factor interest outward bound field-good first-bad listed id-good normal-price half-width market-of half-move terms-of corridor-half corridor inside-bounds floored fresh-line opened-with open-line header-of key-at contract-at keys-at contracts-at header-good laid-out key-good bad-key opening-state open-lines open-records opening close presses judged judge judge-line moved redrawn moved-line shift-line most-left shifted after read-tick read-quote read in-session not-crossed quote-answer screened verdict quoted-line quoted applied next due-of ahead sooner passed earliest in-time next-due serve served-by answer run finally rows-of rows-from closing-row session-rows pieces rows-after program row-numbers
+unfolding word signed bit table-number field-place field-number event-number between-keys rate-from rate-by-keys rate-at exponent term series outer-part up-factor down-factor factors-of factor interest outward bound field-good first-bad listed id-good normal-price half-width market-of half-move terms-of corridor-half corridor inside-bounds floored fresh-line opened-with open-line header-of key-at contract-at keys-at contracts-at header-good laid-out key-good bad-key opening-state open-lines open-records opening close presses judged judge judge-line moved redrawn moved-line shift-line most-left shifted after read-tick read-quote read in-session not-crossed quote-answer screened verdict quoted-line quoted applied next due-of ahead sooner passed earliest in-time next-due serve served-by answer run finally rows-of rows-from closing-row session-rows pieces rows-after program row-numbers
 starred-claim = refl

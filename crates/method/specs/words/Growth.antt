@@ -44,9 +44,14 @@ unfoldable pub series : ℕ → ℕ → ℕ
 series y zero = term y zero
 series y (suc k) = series y k + term y (suc k)
 
--- thirteen terms of the exponential series (METHOD 6.2)
+-- 20 billionths, more than the rounding of the terms takes, but nothing at 0, where it takes nothing (METHOD 6.2)
+unfoldable pub outer-part : ℕ → ℕ
+outer-part zero = 0
+outer-part (suc y) = 20
+
+-- thirteen terms of the exponential series, on the outer side (METHOD 6.2)
 unfoldable pub up-factor : ℕ → ℕ
-up-factor y = series y 12
+up-factor y = series y 12 + outer-part y
 
 -- one over the up factor, rounded down (METHOD 6.3)
 unfoldable pub down-factor : ℕ → ℕ

@@ -1,9 +1,9 @@
--- `growth::by_series` meets its contract. Assumes nothing.
+-- `growth::series` meets its contract. Assumes nothing.
 use Prim.Native.Nat.{_-_}
 use native.Mathlib.Omega.{arith}
-use Rattle.growth.proofs.Series.{Summed, summed-start, product, summed-turn, summed-end}
-use Rattle.growth.proofs.by_series.Statement.{statement}
-use Rattle.growth.proofs.by_series.Tie as tie
+use Rattle.growth.proofs.Summed.{Summed, summed-start, product, summed-turn, summed-end}
+use Rattle.growth.proofs.series.Statement.{statement}
+use Rattle.growth.proofs.series.Tie as tie
 
 abbrev Inv-loop : tie.InvT-loop
 Inv-loop y term₀ sum₀ k₀ term sum k = Summed (y .0) term sum k
@@ -41,8 +41,8 @@ loop-again c = summed-turn (c .before .before .loop .inv) (omega arith) (c .befo
 returns : tie.Need-returns Inv-loop μ-loop
 returns c = summed-end (c .before .loop .inv) (omega arith)
 
-pub by-series-spec : {M : Type 1} → statement M
-by-series-spec =
+pub series-spec : {M : Type 1} → statement M
+series-spec =
     tie.close
     (tie.spec
     Inv-loop

@@ -1,10 +1,10 @@
 -- What holds at the head of the series' loop, and after a turn. Assumes nothing.
 use mathlib.Core.Path.{_≡_, refl, ap, ap₂, _∙_}
-use Prim.Native.Nat.{ℕ, suc, _+_, _*_, _/_, _≤_, _<_}
-use native.Mathlib.Nat.{div-le-of-le-mul, le-trans, mul-le-mul}
+use Prim.Native.Nat.{ℕ, zero, suc, _+_, _*_, _/_, _≤_, _<_}
+use native.Mathlib.Nat.{not-suc-le-zero, div-le-of-le-mul, le-trans, mul-le-mul}
 use native.Mathlib.Numerals.{add-one}
 use native.Mathlib.Omega.{arith}
-use Rattle.method.specs.words.Growth.{most-exponent, term, series, up-factor}
+use Rattle.method.specs.words.Growth.{most-exponent, term, series, outer-part, up-factor}
 
 -- after the k-th term
 pub record Summed (y a sum k : ℕ) : Type 0 where
@@ -40,8 +40,17 @@ module _ {y a sum k : ℕ} (r : Summed y a sum k) (more : k < 12) (cap : y ≤ m
   summed-turn =
       record { turn = omega arith; is-term = next-term; is-series = next-series; small = next-small; bounded = omega (arith, r .bounded, next-small) }
 
-pub summed-end : {y a sum k : ℕ} → Summed y a sum k → 12 ≤ k → sum ≡ up-factor y
-unfolding up-factor
+pub summed-end : {y a sum k : ℕ} → Summed y a sum k → 12 ≤ k → sum ≡ series y 12
 summed-end {y} {k = k} r h =
     let last : k ≡ 12 = omega (arith, r .turn) in
     r .is-series ∙ ap (λ (n : ℕ). series y n) last
+
+-- ---- the series by itself is no factor but at 0
+outer-above : (y : ℕ) → 0 < y → outer-part y ≡ 20
+unfolding outer-part
+outer-above zero h = absurd (not-suc-le-zero h)
+outer-above (suc y) h = refl
+
+pub with-outer-part : {y sum : ℕ} → 0 < y → sum ≡ series y 12 → sum + 20 ≡ up-factor y
+unfolding up-factor
+with-outer-part {y} h e = omega (arith, e, outer-above y h)
