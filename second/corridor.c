@@ -107,7 +107,7 @@ Billionths corridor_exponent(Millionths rate, Days days_left)
     return (Billionths){floor_division(rate.millionths * days_left.days * 1000, 365)};
 }
 
-Billionths corridor_up_factor(Billionths exponent)
+Billionths corridor_series(Billionths exponent)
 {
     int64_t term = BILLION;
     int64_t sum = term;
@@ -116,6 +116,14 @@ Billionths corridor_up_factor(Billionths exponent)
         sum += term;
     }
     return (Billionths){sum};
+}
+
+/* What is rounded down leaves the series short of the exact sum, by far less than is added here; so a bound is never
+   too narrow for it. At 0 nothing is rounded, and nothing added. */
+Billionths corridor_up_factor(Billionths exponent)
+{
+    int64_t outer = exponent.billionths > 0 ? OUTER_BILLIONTHS : 0;
+    return (Billionths){corridor_series(exponent).billionths + outer};
 }
 
 Billionths corridor_down_factor(Billionths up_factor)

@@ -23,6 +23,8 @@ enum {
     LEVELS = 3,
     SIDES = 2,
     ID_SLOTS = 256,
+    /* What the up factor of an exponent above 0 has beyond its series. */
+    OUTER_BILLIONTHS = 20,
     /* How far from zero a quote's price may be, in steps. */
     MOST_QUOTE_PRICE = 2000000000,
     LONGEST_TABLE = HEADER_BYTES + MOST_KEYS * KEY_BYTES + MOST_LINES * CONTRACT_BYTES
@@ -160,6 +162,8 @@ Place corridor_place(const Session *session, uint32_t id, Steps price);
 /* The opening numbers, one function for each, so that the figures of METHOD 25 can be run on them. */
 Millionths corridor_rate(const Keys *keys, Days days_left);
 Billionths corridor_exponent(Millionths rate, Days days_left);
+/* The thirteen terms alone, each rounded down, without what makes an up factor of their sum. */
+Billionths corridor_series(Billionths exponent);
 Billionths corridor_up_factor(Billionths exponent);
 Billionths corridor_down_factor(Billionths up_factor);
 

@@ -38,7 +38,7 @@ static void readings_of_limits_near_zero(void)
 }
 
 /*
- * Half-width 100 at exponent 10^8, where the up factor is 1.105170916 and the down factor 0.904837419. The upper
+ * Half-width 100 at exponent 10^8, where the up factor is 1.105170936 and the down factor 0.904837403. The upper
  * market bound takes the up factor from 0 on and below 0 the down factor, the lower one the other of them, so that
  * interest always leads outward. Half the corridor is a quarter of what lies between the bounds, rounded down.
  *

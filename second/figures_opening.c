@@ -45,12 +45,12 @@ static void figures_of_factors(void)
     check_number("y at 100,000, 365 days", corridor_exponent((Millionths){100000}, (Days){365}).billionths, 100000000);
     check_number("y beyond 32 bits", corridor_exponent((Millionths){1000000}, (Days){3650}).billionths, 10000000000);
     Billionths up = corridor_up_factor((Billionths){100000000});
-    check_number("up factor", up.billionths, 1105170916);
-    check_number("down factor", corridor_down_factor(up).billionths, 904837419);
-    /* 10^9 + 11,404,109 + 65,026 + 247. */
+    check_number("up factor", up.billionths, 1105170936);
+    check_number("down factor", corridor_down_factor(up).billionths, 904837403);
+    /* 10^9 + 11,404,109 + 65,026 + 247, and 20. */
     Billionths up_at_45_days = corridor_up_factor((Billionths){11404109});
-    check_number("up factor at 92,500, 45 days", up_at_45_days.billionths, 1011469382);
-    check_number("down factor at 92,500, 45 days", corridor_down_factor(up_at_45_days).billionths, 988660673);
+    check_number("up factor at 92,500, 45 days", up_at_45_days.billionths, 1011469402);
+    check_number("down factor at 92,500, 45 days", corridor_down_factor(up_at_45_days).billionths, 988660653);
     check_number("up factor at 0", corridor_up_factor((Billionths){0}).billionths, 1000000000);
     check_number("down factor at 0", corridor_down_factor((Billionths){1000000000}).billionths, 1000000000);
 }
@@ -177,23 +177,23 @@ static void figures_of_cap(void)
     check_number("y nearest under", corridor_exponent((Millionths){249658}, (Days){731}).billionths, 499999994);
     check_number("y at the cap", corridor_exponent((Millionths){50000}, (Days){3650}).billionths, 500000000);
     check_number("y nearest above", corridor_exponent((Millionths){106043}, (Days){1721}).billionths, 500000008);
-    /* 10^9 + 500,000,000 + 125,000,000 + 20,833,333 + 2,604,166 + 260,416 + 21,701 + 1,550 + 96 + 5. */
+    /* 10^9 + 500,000,000 + 125,000,000 + 20,833,333 + 2,604,166 + 260,416 + 21,701 + 1,550 + 96 + 5, and 20. */
     Billionths up = corridor_up_factor((Billionths){500000000});
-    check_number("up factor at the cap", up.billionths, 1648721267);
-    check_number("down factor at the cap", corridor_down_factor(up).billionths, 606530661);
+    check_number("up factor at the cap", up.billionths, 1648721287);
+    check_number("down factor at the cap", corridor_down_factor(up).billionths, 606530653);
 
-    /* Half-width 50,000,000: 150,000,000 x up is 247,308,190.05, 50,000,000 x down is 30,326,533.05; the limits lie
-       a quarter of 216,981,658, rounded down, from P. A negative price has the same below zero, upper for lower. */
+    /* Half-width 50,000,000: 150,000,000 x up is 247,308,193.05, 50,000,000 x down is 30,326,532.65; the limits lie
+       a quarter of 216,981,662, rounded down, from P. A negative price has the same below zero, upper for lower. */
     TableDraft draft = sample_with_keys(3650, 50000, 0, 0, 3650);
     const uint32_t large[] = {100000000, 100000000, 1, 500000, 500000, 500000};
     memcpy(draft.contracts[0], large, sizeof large);
-    check_program("at the cap", &draft, 0, "7 45754586 154245414 30326533 247308191\n", NULL, 0);
+    check_program("at the cap", &draft, 0, "7 45754585 154245415 30326532 247308194\n", NULL, 0);
     draft.contracts[0][CONTRACT_SETTLEMENT] = (uint32_t)-100000000;
     draft.contracts[0][CONTRACT_FLAGS] |= FLAG_PERMITS_NEGATIVE;
-    check_program("at the cap below zero", &draft, 0, "7 -154245414 -45754586 -247308191 -30326533\n", NULL, 0);
-    /* Around zero both bounds take the up factor: 50,000,000 x up is 82,436,063.35. */
+    check_program("at the cap below zero", &draft, 0, "7 -154245415 -45754585 -247308194 -30326532\n", NULL, 0);
+    /* Around zero both bounds take the up factor: 50,000,000 x up is 82,436,064.35. */
     draft.contracts[0][CONTRACT_SETTLEMENT] = 0;
-    check_program("at the cap around zero", &draft, 0, "7 -41218032 41218032 -82436064 82436064\n", NULL, 0);
+    check_program("at the cap around zero", &draft, 0, "7 -41218032 41218032 -82436065 82436065\n", NULL, 0);
 
     /* Contract 7 at the cap, and on line 2 contract 8 above it; with a day less its product is 182,393,960. */
     draft = sample_with_keys(1721, 106043, 3650, 50000, 3650);

@@ -158,7 +158,8 @@ static void figures_of_frozen_quotes(void)
                   EVENTS(draft_ask(1, 7, -100), draft_tick(1000)));
 }
 
-/* The widest contract 7 is carried by contract 8, whose limits no quote is too small to press. */
+/* The widest contract 7 is carried by contract 8, whose limits no quote is too small to press. Sixteen shifts carry a market
+   bound of 200,000,000 to 1,800,000,000: times 1.648721287 that is 2,967,698,316.6. */
 static void readings_of_widths(void)
 {
     TableDraft draft = sample_of_two();
@@ -170,24 +171,24 @@ static void readings_of_widths(void)
     Course course = started(&draft);
     check_events("A11 all shifts up", &course, every_minute(60, 16, "U 8").text,
                  EVENTS(draft_bid(0, 8, 2000000000), draft_tick(1000)));
-    check_shown("A11 widest bound", closing_of(&course, 7).numbers[3], 2967698281);
+    check_shown("A11 widest bound", closing_of(&course, 7).numbers[3], 2967698317);
 
     draft.contracts[0][CONTRACT_SETTLEMENT] = (uint32_t)-100000000;
     course = started(&draft);
     check_events("A11 all shifts down", &course, every_minute(60, 16, "D 8").text,
                  EVENTS(draft_ask(0, 8, -2000000000), draft_tick(1000)));
-    check_shown("A11 lowest bound", closing_of(&course, 7).numbers[2], -2967698281);
+    check_shown("A11 lowest bound", closing_of(&course, 7).numbers[2], -2967698317);
 
-    /* From 0 sixteen shifts carry a market bound 1,600,000,000 away: times 1.648721267 that is 2,637,954,027.2. */
+    /* From 0 sixteen shifts carry a market bound 1,600,000,000 away: times 1.648721287 that is 2,637,954,059.2. */
     course = started(&draft);
     check_events("A11 all shifts up, below zero", &course, every_minute(60, 16, "U 8").text,
                  EVENTS(draft_bid(0, 8, 2000000000), draft_tick(1000)));
-    check_shown("A11 widest bound of the lowest price", closing_of(&course, 7).numbers[3], 2637954028);
+    check_shown("A11 widest bound of the lowest price", closing_of(&course, 7).numbers[3], 2637954060);
     draft.contracts[0][CONTRACT_SETTLEMENT] = 100000000;
     course = started(&draft);
     check_events("A11 all shifts down, above zero", &course, every_minute(60, 16, "D 8").text,
                  EVENTS(draft_ask(0, 8, -2000000000), draft_tick(1000)));
-    check_shown("A11 lowest bound of the highest price", closing_of(&course, 7).numbers[2], -2637954028);
+    check_shown("A11 lowest bound of the highest price", closing_of(&course, 7).numbers[2], -2637954060);
 }
 
 static void readings_of_zero_width(void)

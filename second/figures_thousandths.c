@@ -12,7 +12,7 @@
 #include <string.h>
 
 /*
- * At whole thousandths, and one billionth beside one. The terms:
+ * At whole thousandths, and one billionth beside one. The terms, to which all but the first exponent's add 20:
  *
  *     1,000,000   10^9 +   1,000,000 +         500
  *    99,999,999   10^9 +  99,999,999 +   4,999,999 +    166,666 +     4,166 +      83 +      1
@@ -25,12 +25,12 @@ static void figures_of_factors_at_thousandths(void)
 {
     static const struct { const char *name; int64_t exponent, up_factor, down_factor; } factors[] = {
         {"factors at thousandth 0", 0, 1000000000, 1000000000},
-        {"factors at thousandth 1", 1000000, 1001000500, 999000499},
-        {"factors a billionth under thousandth 100", 99999999, 1105170914, 904837421},
-        {"factors at thousandth 100", 100000000, 1105170916, 904837419},
-        {"factors a billionth over thousandth 100", 100000001, 1105170917, 904837418},
-        {"factors at thousandth 499", 499000000, 1647073370, 607137495},
-        {"factors at thousandth 500", 500000000, 1648721267, 606530661},
+        {"factors at thousandth 1", 1000000, 1001000520, 999000480},
+        {"factors a billionth under thousandth 100", 99999999, 1105170934, 904837404},
+        {"factors at thousandth 100", 100000000, 1105170936, 904837403},
+        {"factors a billionth over thousandth 100", 100000001, 1105170937, 904837402},
+        {"factors at thousandth 499", 499000000, 1647073390, 607137487},
+        {"factors at thousandth 500", 500000000, 1648721287, 606530653},
     };
     for (size_t i = 0; i < sizeof factors / sizeof factors[0]; i++) {
         Billionths up = corridor_up_factor((Billionths){factors[i].exponent});
@@ -41,34 +41,34 @@ static void figures_of_factors_at_thousandths(void)
 
 /*
  * Lines at a whole thousandth, where rate x days is 365,000 times it, and at the next exponents that a table can have.
- * Price 100,000,000 and half-width 70,000,000, so that the market bounds are 170,000,000 and 30,000,000: with these every
+ * Price 100,000,000 and half-width 46,000,000, so that the market bounds are 146,000,000 and 54,000,000: with these every
  * line is another than the one at its thousandth. The limits lie a quarter of the way between the interest bounds, rounded
  * down, from P.
  *
- *   rate x days      exponent    up factor       x 170,000,000    down factor   x 30,000,000
- *       364,999       999,997    1,001,000,496   170,170,084.32   999,000,503   29,970,015.09
- *       365,000     1,000,000    1,001,000,500   170,170,085      999,000,499   29,970,014.97
- *       365,001     1,000,002    1,001,000,502   170,170,085.34   999,000,498   29,970,014.94
- *    36,499,997    99,999,991    1,105,170,906   187,879,054.02   904,837,427   27,145,122.81
- *    36,500,000   100,000,000    1,105,170,916   187,879,055.72   904,837,419   27,145,122.57
- *    36,500,002   100,000,005    1,105,170,921   187,879,056.57   904,837,415   27,145,122.45
- *   182,134,998   498,999,994    1,647,073,360   280,002,471.2    607,137,498   18,214,124.94
- *   182,135,000   499,000,000    1,647,073,370   280,002,472.9    607,137,495   18,214,124.85
- *   182,135,001   499,000,002    1,647,073,372   280,002,473.24   607,137,494   18,214,124.82
+ *   rate x days      exponent    up factor       x 146,000,000     down factor   x 54,000,000
+ *       364,999       999,997    1,001,000,516   146,146,075.336   999,000,484   53,946,026.136
+ *       365,000     1,000,000    1,001,000,520   146,146,075.92    999,000,480   53,946,025.92
+ *       365,001     1,000,002    1,001,000,522   146,146,076.212   999,000,478   53,946,025.812
+ *    36,499,997    99,999,991    1,105,170,926   161,354,955.196   904,837,411   48,861,220.194
+ *    36,500,000   100,000,000    1,105,170,936   161,354,956.656   904,837,403   48,861,219.762
+ *    36,500,002   100,000,005    1,105,170,941   161,354,957.386   904,837,399   48,861,219.546
+ *   182,134,998   498,999,994    1,647,073,380   240,472,713.48    607,137,491   32,785,424.514
+ *   182,135,000   499,000,000    1,647,073,390   240,472,714.94    607,137,487   32,785,424.298
+ *   182,135,001   499,000,002    1,647,073,392   240,472,715.232   607,137,486   32,785,424.244
  */
 static void figures_of_lines_at_thousandths(void)
 {
-    static const uint32_t large[] = {100000000, 100000000, 1, 700000, 700000, 700000};
+    static const uint32_t large[] = {100000000, 100000000, 1, 460000, 460000, 460000};
     static const struct { const char *name; uint32_t rate, days; const char *answer; } lines[] = {
-        {"line next under thousandth 1", 953, 383, "7 64949983 135050017 29970015 170170085\n"},
-        {"line at thousandth 1", 1000, 365, "7 64949983 135050017 29970014 170170085\n"},
-        {"line next over thousandth 1", 121667, 3, "7 64949982 135050018 29970014 170170086\n"},
-        {"line next under thousandth 100", 439759, 83, "7 59816517 140183483 27145122 187879055\n"},
-        {"line at thousandth 100", 100000, 365, "7 59816517 140183483 27145122 187879056\n"},
-        {"line next over thousandth 100", 744898, 49, "7 59816517 140183483 27145122 187879057\n"},
-        {"line next under thousandth 499", 155538, 1171, "7 34552913 165447087 18214124 280002472\n"},
-        {"line at thousandth 499", 499000, 365, "7 34552913 165447087 18214124 280002473\n"},
-        {"line next over thousandth 499", 154221, 1181, "7 34552913 165447087 18214124 280002474\n"},
+        {"line next under thousandth 1", 953, 383, "7 76949988 123050012 53946026 146146076\n"},
+        {"line at thousandth 1", 1000, 365, "7 76949988 123050012 53946025 146146076\n"},
+        {"line next over thousandth 1", 121667, 3, "7 76949987 123050013 53946025 146146077\n"},
+        {"line next under thousandth 100", 439759, 83, "7 71876566 128123434 48861220 161354956\n"},
+        {"line at thousandth 100", 100000, 365, "7 71876566 128123434 48861219 161354957\n"},
+        {"line next over thousandth 100", 744898, 49, "7 71876566 128123434 48861219 161354958\n"},
+        {"line next under thousandth 499", 155538, 1171, "7 48078178 151921822 32785424 240472714\n"},
+        {"line at thousandth 499", 499000, 365, "7 48078178 151921822 32785424 240472715\n"},
+        {"line next over thousandth 499", 154221, 1181, "7 48078177 151921823 32785424 240472716\n"},
     };
     for (size_t i = 0; i < sizeof lines / sizeof lines[0]; i++) {
         TableDraft draft = sample_with_keys(lines[i].days, lines[i].rate, 0, 0, lines[i].days);

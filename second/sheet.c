@@ -1,13 +1,13 @@
 /*
  * sheet.c: the program "sheet PAGE". It reads the desk's page of growth factors and holds every factor on it to this
- * engine, which has no table and works all of them out by the series. After some prose the page has two sheets, and
+ * engine, which has no table and works all of them out. After some prose the page has two sheets, and
  * nothing else:
  *
  *   ## Up
  *                                                     an empty line
  *   ```
  *                 +0           +1 ..           +9
- *     0  1.000000000  1.001000500 ..  1.009040621     the thousandth at the margin, and ten factors; with 500 one
+ *     0  1.000000000  1.001000520 ..  1.009040641     the thousandth at the margin, and ten factors; with 500 one
  *    ..
  *   ```
  *                                                     an empty line
