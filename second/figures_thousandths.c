@@ -134,8 +134,8 @@ static bool tells_down_factor(const Line *line, int64_t more)
 }
 
 /* Of 1,501 inputs, for a factor that is greater by one billionth and for one that is smaller, 3,002: how many the sweep's
-   bounds tell, so that a sweep which has lost its sharpness does not pass. Of down factors the missing three are the greater
-   one at exponent 0 and both at 2. */
+   bounds tell, so that a sweep which has lost its sharpness does not pass. Of down factors the missing one is the greater one
+   at exponent 0. */
 static void figures_of_sweep(void)
 {
     int up_factors = 0;
@@ -146,7 +146,7 @@ static void figures_of_sweep(void)
         down_factors += tells_down_factor(&session.lines[1], 1) + tells_down_factor(&session.lines[2], -1);
     }
     check_number("sweep bounds that tell an up factor", up_factors, 3002);
-    check_number("sweep bounds that tell a down factor", down_factors, 2999);
+    check_number("sweep bounds that tell a down factor", down_factors, 3001);
 }
 
 void thousandth_figures(void)

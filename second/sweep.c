@@ -6,11 +6,11 @@
  * bid at the greatest price presses until sixteen shifts up are made. Its upper market bound is then 10^8 + 10^8 +
  * 16 x 10^8 = 1.8 x 10^9, so that one billionth of the up factor is 1.8 steps of the upper interest bound.
  *
- * The down factor: any, but at the exponents 0 and 2 any of eleven billionths or more. It is multiplied with 10^8 at
+ * The down factor: any, but at exponent 0 a greater one only from eleven billionths on. It is multiplied with 10^8 at
  * most, since shifts move a market bound that takes it toward zero or not at all; so one billionth of it is a tenth of
  * a step. Contracts 2 and 3 have lower market bounds where that tenth leads across a whole step, for a greater and for a
- * smaller factor. At 0 and 2 the factor is so close to one that no bound does it for a greater one, and at 2 none for a
- * smaller one either.
+ * smaller factor. At 0 the factor is one and every bound a whole step already, so that a greater one takes a whole step to
+ * show.
  */
 #include "sweep.h"
 
@@ -22,12 +22,14 @@ static const uint32_t MOST_TABLE_PRICE = 100000000;
 enum {
     /* In steps: a narrower line has no half-move. */
     LEAST_HALF_WIDTH = 2,
-    /* The most that is needed is 11,017, at exponent 470,000,000; where no bound does it (see above), no number is enough. */
-    BOUNDS_TRIED = 20000
+    /* The most that is needed is 9,090,909, at exponent 2, where the factor is so close to one that the tenths of a step add
+       up slowly: 22 billionths of a bound are two steps at 90,909,090.9... At every other exponent it is 11,066 or less, which
+       470,000,002 needs. Where no bound does it (see above), no number is enough. */
+    BOUNDS_TRIED = 10000000
 };
 
 /* The greatest lower market bound whose interest bound tells the two factors apart. Where none of those tried does, it is
-   one that does not: how many of the sweep do is among the figures (figures_opening.c). */
+   one that does not: how many of the sweep do is among the figures (figures_thousandths.c). */
 static uint32_t telling_bound(Billionths factor, Billionths other)
 {
     uint32_t bound = MOST_TABLE_PRICE - LEAST_HALF_WIDTH;
