@@ -12,6 +12,7 @@ int main(void)
 {
     opening_figures();
     thousandth_figures();
+    outer_figures();
     table_figures();
     event_figures();
     session_figures();

@@ -6,6 +6,7 @@
 
 void opening_figures(void);
 void thousandth_figures(void);
+void outer_figures(void);
 void table_figures(void);
 void event_figures(void);
 void session_figures(void);
