@@ -8,6 +8,7 @@
 #include "draft.h"
 #include "edges.h"
 #include "input.h"
+#include "outer.h"
 #include "random.h"
 #include "thousandths.h"
 
@@ -240,6 +241,31 @@ static void bring_near_zero(Random *random, TableDraft *draft, uint32_t index)
     }
 }
 
+/* Gives a contract another price, so that one of its market bounds is a small one whose interest bound is another by the
+   series alone, or that so many shifts would carry it there. Spot and least price stay. A contract without growth is left,
+   and one with a fault that mending leaves. */
+static void bring_beyond_series(Random *random, TableDraft *draft, uint32_t index, int64_t shifts)
+{
+    uint32_t *contract = draft->contracts[index];
+    Session session;
+    mend_contract(draft, index);
+    if (open_contract(draft, index, &session) != NOT_REFUSED || !outer_has(&session.lines[0])) {
+        return;
+    }
+    const Line *line = &session.lines[0];
+    bool takes_up_factor = chance(random, 50);
+    int64_t from = between(random, 1, MOST_SMALL_DISTANCE - DISTANCES_TRIED);
+    int64_t distance = outer_telling_distance(line, takes_up_factor, from);
+    int64_t way = 2 * line->half_move.steps * shifts;
+    if (distance == 0) {
+        return;
+    }
+    /* Shifts carry away from zero what takes the up factor, and toward it what takes the down factor. */
+    int64_t price = takes_up_factor ? distance - way - line->half_width[0].steps
+                                    : distance + way + line->half_width[0].steps;
+    set_price(random, contract, chance(random, 50) ? price : -price);
+}
+
 static bool id_used(const TableDraft *draft, uint32_t lines, uint32_t id)
 {
     for (uint32_t i = 0; i < lines; i++) {
@@ -322,6 +348,8 @@ static TableDraft make_table(Random *random)
         }
         if (chance(random, near_zero_percent)) {
             bring_near_zero(random, &draft, i);
+        } else if (chance(random, 15)) {
+            bring_beyond_series(random, &draft, i, chance(random, 50) ? 0 : between(random, 1, 4));
         }
         mend_contract(&draft, i);
     }
@@ -489,7 +517,8 @@ static uint32_t least_refused_share(const TableDraft *draft, uint32_t index)
 }
 
 /* Grows the width share of one contract to where the limits leave the interest bounds, or farther, or to one less. Most
-   have their market bounds around zero. */
+   have their market bounds around zero. Of the others one is mostly small and has another interest bound by the series alone,
+   so that whether the table is refused may hang on that. */
 static void damage_limits(Random *random, TableDraft *draft)
 {
     uint32_t index = count_between(random, 0, draft->contract_count - 1);
@@ -500,14 +529,17 @@ static void damage_limits(Random *random, TableDraft *draft)
         draft->contracts[i][CONTRACT_DAYS_LEFT] = count_between(random, 1, 700);
         mend_contract(draft, i);
     }
-    if (chance(random, 75) && open_contract(draft, index, &session) == NOT_REFUSED) {
+    bool around_zero = chance(random, 60);
+    if (around_zero && open_contract(draft, index, &session) == NOT_REFUSED) {
         bring_around_zero(random, contract, session.lines[0].half_width[0]);
+    } else if (!around_zero && chance(random, 75)) {
+        bring_beyond_series(random, draft, index, 0);
     }
     uint32_t bad = least_refused_share(draft, index);
-    if (bad > MILLION || chance(random, 25)) {
+    if (bad > MILLION || chance(random, around_zero ? 25 : 50)) {
         contract[CONTRACT_WIDTH_SHARE] = bad - 1;
     } else {
-        uint32_t most = chance(random, 50) ? 1000000 : (uint32_t)clamp(bad + 3, 0, MILLION);
+        uint32_t most = around_zero && chance(random, 50) ? 1000000 : (uint32_t)clamp(bad + 3, 0, MILLION);
         contract[CONTRACT_WIDTH_SHARE] = count_between(random, bad, most);
     }
 }

@@ -5,6 +5,7 @@
 
 #include "draft.h"
 #include "faults.h"
+#include "outer.h"
 
 #include <inttypes.h>
 #include <stdio.h>
@@ -57,6 +58,19 @@ static const char *const NAMES[TALLY_COUNTS] = {
     [TALLY_REFUSED_AROUND_ZERO] = "refusal 9 around zero",
     [TALLY_BELOW_THOUSANDTH] = "lines just under a thousandth",
     [TALLY_ABOVE_THOUSANDTH] = "lines just over a thousandth",
+    [TALLY_LEAST_EXPONENT] = "lines at exponent 2",
+    [TALLY_OUTER_NOTHING] = "bounds the same by the series alone",
+    [TALLY_OUTER_UPPER] = "upper bounds a step from the series",
+    [TALLY_OUTER_LOWER] = "lower bounds a step from the series",
+    [TALLY_OUTER_SMALL_UPPER] = "small upper bounds a step from it",
+    [TALLY_OUTER_SMALL_LOWER] = "small lower bounds a step from it",
+    [TALLY_OUTER_LIMITS] = "limits other by the series alone",
+    [TALLY_OUTER_AFTER_SHIFT] = "shifts to a bound a step from it",
+    [TALLY_OUTER_UPPER_MOVE] = "upper bounds moved other than by it",
+    [TALLY_OUTER_LOWER_MOVE] = "lower bounds moved other than by it",
+    [TALLY_OUTER_SMALL_MOVE] = "small bounds moved other than by it",
+    [TALLY_OUTER_OPENED] = "lines refused by the series alone",
+    [TALLY_OUTER_REFUSED] = "refusal 9 not by the series alone",
     [TALLY_TICKS_ADDED] = "ticks added",
     [TALLY_QUOTES_REPEATED] = "quotes repeated",
     [TALLY_HELD_QUOTES_REPEATED] = "quotes repeated under a hold",
@@ -70,29 +84,44 @@ static const char *const NAMES[TALLY_COUNTS] = {
 
 /* How many of a thousand generated inputs have to bring it about. Behind it: about how many do, and how many would without
    a step of generate.c, so that each of these demands would fail then. The step is spoil_absence for refusal 15 and
-   spoil_range for 16, the leaps of time for sixteen shifts, damage_limits' bringing contracts around zero for refusal 9, keys
-   beside a thousandth for lines just under and over one (thousandths.c), and for the others that contracts are brought near
-   zero. */
+   spoil_range for 16, the leaps of time for sixteen shifts, damage_limits' bringing contracts around zero for refusal 9 there,
+   keys beside a thousandth for lines just under and over one and, where there is none below, above it for lines at exponent 2
+   (thousandths.c), make_table's bringing contracts beyond the series for small bounds, damage_limits' doing so for what is
+   refused or opens for a step, and for the others that contracts are brought near zero. */
 static const uint64_t LEAST_IN_A_THOUSAND[TALLY_COUNTS] = {
     [REFUSED_ABSENT_PRICE] = 200, /* 367, 117 */
     [REFUSED_PRICE_RANGE] = 200, /* 357, 23 */
-    [TALLY_MOST_SHIFTS_AT_ONCE] = 5, /* 8, 3 */
+    [TALLY_MOST_SHIFTS_AT_ONCE] = 5, /* 9, 4 */
     [TALLY_UPPER_MARKET_NEGATIVE] = 50,
     [TALLY_LOWER_MARKET_NOT_NEGATIVE] = 50,
     [TALLY_UPPER_ACROSS_ZERO] = 50,
     [TALLY_LOWER_ACROSS_ZERO] = 50,
     [TALLY_FLOORED_MARKET_NEGATIVE] = 50,
     [TALLY_OTHER_BY_PRICE] = 50,
-    [TALLY_MARKET_AROUND_ZERO] = 300, /* 341, 223 */
-    [TALLY_WIDE_AROUND_ZERO] = 100, /* 176, 36 */
-    [TALLY_MARKET_AT_ZERO] = 130, /* 175, 99 */
-    [TALLY_MARKET_BESIDE_ZERO] = 110, /* 158, 50 */
-    [TALLY_UPPER_ACROSS_FROM_MINUS_ONE] = 15, /* 34, 4 */
-    [TALLY_LOWER_ACROSS_FROM_ONE] = 22, /* 36, 9 */
-    [TALLY_REFUSED_BY_PRICE] = 65, /* 101, 52 */
-    [TALLY_REFUSED_AROUND_ZERO] = 12, /* 26, 8 */
-    [TALLY_BELOW_THOUSANDTH] = 13, /* 26, 0 */
-    [TALLY_ABOVE_THOUSANDTH] = 13, /* 32, 0 */
+    [TALLY_MARKET_AROUND_ZERO] = 300, /* 334, 215 */
+    [TALLY_WIDE_AROUND_ZERO] = 100, /* 187, 66 */
+    [TALLY_MARKET_AT_ZERO] = 130, /* 171, 91 */
+    [TALLY_MARKET_BESIDE_ZERO] = 110, /* 156, 43 */
+    [TALLY_UPPER_ACROSS_FROM_MINUS_ONE] = 15, /* 36, 3 */
+    [TALLY_LOWER_ACROSS_FROM_ONE] = 22, /* 36, 8 */
+    [TALLY_REFUSED_BY_PRICE] = 65, /* 92, 47 */
+    [TALLY_REFUSED_AROUND_ZERO] = 12, /* 21, 7 */
+    [TALLY_END_THOUSANDTH] = 50,
+    [TALLY_BELOW_THOUSANDTH] = 13, /* 27, 0 */
+    [TALLY_ABOVE_THOUSANDTH] = 13, /* 35, 0 */
+    [TALLY_LEAST_EXPONENT] = 5, /* 7, 3 */
+    [TALLY_OUTER_NOTHING] = 50,
+    [TALLY_OUTER_UPPER] = 50,
+    [TALLY_OUTER_LOWER] = 50,
+    [TALLY_OUTER_SMALL_UPPER] = 40, /* 65, 5 */
+    [TALLY_OUTER_SMALL_LOWER] = 40, /* 65, 5 */
+    [TALLY_OUTER_LIMITS] = 50,
+    [TALLY_OUTER_AFTER_SHIFT] = 50,
+    [TALLY_OUTER_UPPER_MOVE] = 50,
+    [TALLY_OUTER_LOWER_MOVE] = 50,
+    [TALLY_OUTER_SMALL_MOVE] = 40, /* 75, 8 */
+    [TALLY_OUTER_OPENED] = 1, /* 3, 0 */
+    [TALLY_OUTER_REFUSED] = 1, /* 3, 0 */
     [TALLY_TICKS_ADDED] = 50,
     [TALLY_QUOTES_REPEATED] = 50,
     [TALLY_HELD_QUOTES_REPEATED] = 50,
@@ -246,6 +275,27 @@ static FirstDue first_due(const Session *session)
     return first;
 }
 
+/* By how many steps the bounds lie farther out than by the series alone. */
+static Bounds farther_than_series(const Line *line)
+{
+    Bounds by_series = outer_bounds_by_series(line);
+    return (Bounds){
+        .lower = {by_series.lower.steps - line->interest.lower.steps},
+        .upper = {line->interest.upper.steps - by_series.upper.steps},
+    };
+}
+
+/* After the shifts of an event. */
+static void count_outer_shifts(Tally *one, const Session *session)
+{
+    bool any = false;
+    for (uint32_t i = 0; i < session->line_count; i++) {
+        Bounds farther = farther_than_series(&session->lines[i]);
+        any = any || farther.upper.steps == 1 || farther.lower.steps == 1;
+    }
+    one->times[TALLY_OUTER_AFTER_SHIFT] += any;
+}
+
 static void count_shifts(Tally *one, const EventAnswer *answer, FirstDue due, Seconds now)
 {
     for (uint32_t i = 0; i < answer->shift_count; i++) {
@@ -292,6 +342,9 @@ static void count_event(Tally *one, Session *session, const uint8_t *bytes, size
         return;
     }
     count_shifts(one, &answer, due, session->clock);
+    if (answer.shift_count > 0) {
+        count_outer_shifts(one, session);
+    }
     if (draft_read_event(bytes).fields[EVENT_FLAGS] == FLAG_TICK) {
         count_tick(one, due, session->clock);
     }
@@ -348,12 +401,22 @@ static Bounds bounds_by_price(const Line *line, Steps price)
     };
 }
 
+static int64_t half_corridor(Bounds bounds, int64_t width_share)
+{
+    return floor_division(width_share * (bounds.upper.steps - bounds.lower.steps), 2 * MILLION);
+}
+
+/* Whether a contract of this price would be refused with 9, if these were its bounds. */
+static bool refused_with(Bounds bounds, Steps price, int64_t width_share)
+{
+    int64_t half = half_corridor(bounds, width_share);
+    return price.steps + half > bounds.upper.steps || price.steps - half < bounds.lower.steps;
+}
+
 /* Whether a line that opened would by that rule have been refused with 9. */
 static bool refused_by_price(const Line *opened, int64_t width_share)
 {
-    Bounds bounds = bounds_by_price(opened, opened->centre);
-    int64_t half = floor_division(width_share * (bounds.upper.steps - bounds.lower.steps), 2 * MILLION);
-    return opened->centre.steps + half > bounds.upper.steps || opened->centre.steps - half < bounds.lower.steps;
+    return refused_with(bounds_by_price(opened, opened->centre), opened->centre, width_share);
 }
 
 /* Where the bounds at the end are other than by that rule, so is the whole answer: with the same shifts the closing
@@ -410,6 +473,7 @@ static void count_exponent(Tally *one, Billionths exponent)
 {
     int64_t thousandth = exponent.billionths / MILLION;
     int64_t past = exponent.billionths % MILLION;
+    one->times[TALLY_LEAST_EXPONENT] += exponent.billionths == 2;
     one->times[TALLY_BELOW_THOUSANDTH] += past == MILLION - 3;
     one->times[TALLY_ABOVE_THOUSANDTH] += past == 2;
     if (past == 0 && is_end(thousandth)) {
@@ -419,19 +483,56 @@ static void count_exponent(Tally *one, Billionths exponent)
     }
 }
 
+/* ---- Beyond the series ---- */
+
+static bool is_small(Steps market)
+{
+    return -MOST_SMALL_DISTANCE <= market.steps && market.steps <= MOST_SMALL_DISTANCE;
+}
+
+/* One line as it was opened and as it stands at the end, and its contract in the table. A bound that was farther out than by
+   the series alone and no longer is, or the other way round, was moved by another number of steps, and so was its limit. */
+static void count_outer(Tally *one, const Line *opened, const Line *line, const uint8_t *contract)
+{
+    if (!outer_has(opened)) {
+        return;
+    }
+    int64_t width_share = draft_read_field(contract, CONTRACT_WIDTH_SHARE);
+    Bounds by_series = outer_bounds_by_series(opened);
+    Bounds first = farther_than_series(opened);
+    Bounds last = farther_than_series(line);
+    one->times[TALLY_OUTER_NOTHING] += first.upper.steps == 0 && first.lower.steps == 0;
+    one->times[TALLY_OUTER_UPPER] += first.upper.steps == 1;
+    one->times[TALLY_OUTER_LOWER] += first.lower.steps == 1;
+    one->times[TALLY_OUTER_SMALL_UPPER] += first.upper.steps == 1 && is_small(upper_market(opened));
+    one->times[TALLY_OUTER_SMALL_LOWER] += first.lower.steps == 1 && is_small(lower_market(opened));
+    one->times[TALLY_OUTER_LIMITS]
+        += half_corridor(opened->interest, width_share) != half_corridor(by_series, width_share);
+    one->times[TALLY_OUTER_UPPER_MOVE] += first.upper.steps != last.upper.steps;
+    one->times[TALLY_OUTER_LOWER_MOVE] += first.lower.steps != last.lower.steps;
+    one->times[TALLY_OUTER_SMALL_MOVE] += (first.upper.steps != last.upper.steps && is_small(upper_market(line)))
+        || (first.lower.steps != last.lower.steps && is_small(lower_market(line)));
+    one->times[TALLY_OUTER_OPENED] += refused_with(by_series, opened->centre, width_share);
+}
+
 /* ---- Refused lines ---- */
 
-/* Whether the line that a table was refused at with 9 has other bounds by the price's sign. By that rule it is refused
-   too: only the bound beyond zero is another, which is the nearer one to the price, and it is nearer still. To have its
-   numbers, the line is opened alone and with width share 0. */
-static bool refused_around_zero(const Input *input, uint32_t line)
+/* The line that a table was refused at with 9. To have its numbers, it is opened alone and with width share 0. It may have
+   other bounds by the price's sign. By that rule it is refused too: only the bound beyond zero is another, which is the nearer
+   one to the price, and it is nearer still. By the series alone it may have opened. */
+static void count_refused_limits(Tally *one, const Input *input, uint32_t number)
 {
     uint8_t table[LONGEST_TABLE];
     Session session;
-    size_t length = faults_line_alone(input, line, table);
-    memset(table + length - CONTRACT_BYTES + 4 * CONTRACT_WIDTH_SHARE, 0, 4);
-    TableAnswer answer = corridor_open(table, length, &session);
-    return answer.kind == ACCEPTED && other_by_price(&session.lines[0], session.lines[0].centre);
+    const Line *line = &session.lines[0];
+    size_t length = faults_line_alone(input, number, table);
+    uint8_t *contract = table + length - CONTRACT_BYTES;
+    int64_t width_share = draft_read_field(contract, CONTRACT_WIDTH_SHARE);
+    memset(contract + 4 * CONTRACT_WIDTH_SHARE, 0, 4);
+    if (corridor_open(table, length, &session).kind == ACCEPTED) {
+        one->times[TALLY_REFUSED_AROUND_ZERO] += other_by_price(line, line->centre);
+        one->times[TALLY_OUTER_REFUSED] += !refused_with(outer_bounds_by_series(line), line->centre, width_share);
+    }
 }
 
 static void count_field(Tally *one, const Input *input, const TableAnswer *answer)
@@ -452,7 +553,7 @@ static void count_refused(Tally *one, const Input *input, const TableAnswer *ans
     if (answer->reason == REFUSED_CONTRACT) {
         count_field(one, input, answer);
     } else if (answer->reason == REFUSED_LIMITS) {
-        one->times[TALLY_REFUSED_AROUND_ZERO] += refused_around_zero(input, answer->line);
+        count_refused_limits(one, input, answer->line);
     }
 }
 
@@ -488,6 +589,7 @@ Tally tally_input(const Input *input)
     const uint8_t *contracts = input->table + input->table_length - session.line_count * CONTRACT_BYTES;
     for (uint32_t i = 0; i < session.line_count; i++) {
         count_near_zero(&one, &opened.lines[i], &session.lines[i], contracts + i * CONTRACT_BYTES);
+        count_outer(&one, &opened.lines[i], &session.lines[i], contracts + i * CONTRACT_BYTES);
         count_exponent(&one, exponent_of(input, contracts + i * CONTRACT_BYTES));
         count_edges(&one, contracts + i * CONTRACT_BYTES);
     }

@@ -48,7 +48,8 @@ static Key draw_key(Random *random)
         = at_end ? END_THOUSANDTH[between(random, 0, END_THOUSANDTHS - 1)] : between(random, 0, LAST_THOUSANDTH);
     Beside beside = chance(random, 50) ? AT_THOUSANDTH : chance(random, 50) ? NEXT_BELOW : NEXT_ABOVE;
     if (!thousandths_has(thousandth, beside)) {
-        beside = AT_THOUSANDTH;
+        /* At each end of the range there is only the exponent on its other side; the end itself comes up often enough. */
+        beside = beside == NEXT_BELOW ? NEXT_ABOVE : NEXT_BELOW;
     }
     return thousandths_key(thousandth, beside, (Days){between(random, 1, MOST_DAYS)});
 }
