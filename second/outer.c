@@ -28,8 +28,8 @@ Bounds outer_bounds_by_series(const Line *line)
     };
 }
 
-/* Away from zero a bound takes the up factor and is rounded away from it, or the down factor and is rounded toward it; below
-   zero it is the same with the other sign. */
+/* Above zero an upper bound takes the up factor and is rounded up, and a lower one takes the down factor and is rounded down.
+   Below zero it is the same with the sides changed and the other sign. */
 static bool tells(const Line *line, bool takes_up_factor, int64_t distance)
 {
     int64_t series = series_of(line).billionths;
