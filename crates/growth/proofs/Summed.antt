@@ -1,4 +1,4 @@
--- What holds at the head of the series' loop, and after a turn. Assumes nothing.
+-- What holds at the head of the series' loop, and after a turn; and what its end is short of a factor. Assumes nothing.
 use mathlib.Core.Path.{_≡_, refl, ap, ap₂, _∙_}
 use Prim.Native.Nat.{ℕ, zero, suc, _+_, _*_, _/_, _≤_, _<_}
 use native.Mathlib.Nat.{not-suc-le-zero, div-le-of-le-mul, le-trans, mul-le-mul}

@@ -88,7 +88,7 @@ fn series(y: Billionths) -> Billionths
     Billionths(sum)
 }
 
-// A whole thousandth, and so exponent 0, is read off the desk's sheet; elsewhere the series is worked out.
+// A whole thousandth, and so exponent 0, is read off the desk's sheet; elsewhere the series is worked out, and the outer part added.
 fn up_factor(y: Billionths) -> Billionths
     requires { ⌜ y .0 ≤ most-exponent ⌝ }
     ensures { λ r. ⌜ r .0 ≡ up-factor (y .0) ⌝ }

@@ -41,6 +41,7 @@ pub mod Parted
 pub mod Rule1
 pub mod Rule2
 pub mod Rule3
+pub mod Covered
 pub mod Clock
 pub mod Repeats
 pub mod Looks

@@ -14,8 +14,8 @@ use Rattle.numbers.proofs.Rounding.{floor-is, ceiling-is}
 use Rattle.method.specs.words.Types.{Side, Up, Down}
 use Rattle.method.specs.words.Growth.{most-exponent, term, series, outer-part, up-factor, down-factor, factors-of}
 use Rattle.method.specs.words.Bounds.{factor, interest, outward}
-use Rattle.method.specs.laws.Outer.{factorial, billionth, one, exact-term, exact-sum, exact, Outward, FactorsOutward, Covered, NeverTooNarrow}
-use Rattle.method.proofs.Growth.{up-between, down-between}
+use Rattle.method.specs.laws.Outer.{factorial, billionth, one, exact-term, exact-sum, exact, OnOuterSide, FactorsOnOuterSide, Covers, NeverTooNarrow}
+use Rattle.method.proofs.Growth.{up-between}
 use Rattle.method.proofs.ExactTerms.{exact-next, exact-first}
 
 -- ---- the series beside the exact sum
@@ -85,8 +85,8 @@ module _ (u b e : ℕ) (positive : 0 < u) where
   below-one-over h = omega (arith, mul-le-mul (le-refl d) h, mul-le-mul (div-mul-le-self 1_000_000_000_000_000_000 u) (le-refl b))
 
   -- at most 20 for those of the up factor, since e is one at least, and 1 for the rounding
-  near-one-over : u * b ≤ e + 20 * b → 1_000_000_000 * b ≤ e → d ≤ 1_000_000_000 → 1_000_000_000 * (1_000_000_000 * b) ≤ (d + 21) * e
-  near-one-over h least most = go (decLe 1_000_000_000 d)
+  near-one-over : u * b ≤ e + 20 * b → 1_000_000_000 * b ≤ e → 1_000_000_000 * (1_000_000_000 * b) ≤ (d + 21) * e
+  near-one-over h least = go (decLe 1_000_000_000 d)
     where
       go : Dec (1_000_000_000 ≤ d) → 1_000_000_000 * (1_000_000_000 * b) ≤ (d + 21) * e
       go (yes p) = omega (arith, mul-le-mul p least)
@@ -99,26 +99,26 @@ unfolding exact-sum
 one-at-least y zero = omega (arith, exact-first y)
 one-at-least y (suc k) = omega (arith, one-at-least y k)
 
-one-at-zero : {y : ℕ} → y ≡ 0 → (up-factor y ≡ 1_000_000_000) × (down-factor y ≡ 1_000_000_000)
-unfolding down-factor up-factor outer-part series term
-one-at-zero e = rw e (refl, refl)
+exact-one : {y : ℕ} → y ≡ 0 → (up-factor y * billionth ≡ exact y) × (down-factor y * exact y ≡ 1_000_000_000 * one)
+unfolding down-factor up-factor outer-part series term exact-sum exact-term billionth factorial
+exact-one e = rw e (refl, refl)
 
-pub factors-outward : FactorsOutward
+pub factors-on-outer-side : FactorsOnOuterSide
 unfolding down-factor
-factors-outward y cap =
+factors-on-outer-side y cap =
     let up = up-outward y cap in
     let positive : 0 < up-factor y = omega (arith, up-between y cap .least) in
     record {
       up-never-below = up .0;
       up-at-most-20-above = up .1;
       down-never-above = below-one-over (up-factor y) billionth (exact y) positive (up .0);
-      down-at-most-21-below = near-one-over (up-factor y) billionth (exact y) positive (up .1) (one-at-least y 12) (down-between y cap .most);
-      exact-at-zero = one-at-zero;
+      down-at-most-21-below = near-one-over (up-factor y) billionth (exact y) positive (up .1) (one-at-least y 12);
+      exact-at-zero = exact-one;
     }
 
 -- ---- interest bounds
 -- n is the size of a market bound, and p less q its interest bound or the negative of that, so that each law serves both sides.
-module _ (y : ℕ) (f : Outward y) where
+module _ (y : ℕ) (f : OnOuterSide y) where
   away : (p q n : ℕ) → n * up-factor y + q * 1_000_000_000 ≤ p * 1_000_000_000 → n * exact y + q * one ≤ p * one
   away p q n h = omega (arith, mul-le-mul (le-refl n) (f .up-never-below), mul-le-mul h (le-refl billionth))
 
@@ -141,12 +141,12 @@ module _ (y : ℕ) (f : Outward y) where
   down-away n b h =
       omega (zarith, mul-is (negsuc n) (exact y), mul-is b one, away (under b) (over b) (suc n) (omega (zarith, h, mul-is (negsuc n) (up-factor y), mul-is b 1_000_000_000)))
 
-  covered : (side : Side) (z : ℤ) → Covered y side z
-  unfolding Covered outward interest factor factors-of
-  covered Up (pos n) = let z = pos n *ℤ pos (up-factor y) in up-away n (ceiling z 1_000_000_000) (ceiling-is z 1_000_000_000 (lit< tt) .high)
-  covered Up (negsuc n) = let z = negsuc n *ℤ pos (down-factor y) in up-toward n (ceiling z 1_000_000_000) (ceiling-is z 1_000_000_000 (lit< tt) .high)
-  covered Down (pos n) = let z = pos n *ℤ pos (down-factor y) in down-toward n (floor z 1_000_000_000) (floor-is z 1_000_000_000 (lit< tt) .low)
-  covered Down (negsuc n) = let z = negsuc n *ℤ pos (up-factor y) in down-away n (floor z 1_000_000_000) (floor-is z 1_000_000_000 (lit< tt) .low)
+  covers : (side : Side) (z : ℤ) → Covers y side z (outward side (factors-of y) z)
+  unfolding Covers outward interest factor factors-of
+  covers Up (pos n) = let z = pos n *ℤ pos (up-factor y) in up-away n (ceiling z 1_000_000_000) (ceiling-is z 1_000_000_000 (lit< tt) .high)
+  covers Up (negsuc n) = let z = negsuc n *ℤ pos (down-factor y) in up-toward n (ceiling z 1_000_000_000) (ceiling-is z 1_000_000_000 (lit< tt) .high)
+  covers Down (pos n) = let z = pos n *ℤ pos (down-factor y) in down-toward n (floor z 1_000_000_000) (floor-is z 1_000_000_000 (lit< tt) .low)
+  covers Down (negsuc n) = let z = negsuc n *ℤ pos (up-factor y) in down-away n (floor z 1_000_000_000) (floor-is z 1_000_000_000 (lit< tt) .low)
 
 pub never-too-narrow : NeverTooNarrow
-never-too-narrow y h = covered y (factors-outward y h)
+never-too-narrow y h = covers y (factors-on-outer-side y h)

@@ -11,6 +11,7 @@ use Rattle.numbers.proofs.Halves.{zarith, add-is, sub-is}
 use Rattle.method.specs.words.Types.{Side, Up, Down, Line, ShiftLine, State, steps}
 use Rattle.method.specs.words.Ranges.{permits-negative}
 use Rattle.method.specs.words.Bounds.{bound}
+use Rattle.method.specs.words.Shifts.{Each, count}
 use Rattle.method.specs.words.Sessions.{Answer, joined, AnswersInWords}
 use Rattle.method.specs.words.Margins.{margin, FloorMet, at-opening, in-a-shift, Lower, exactly, at-floor, Outward}
 use Rattle.method.specs.words.Rules.{Opens, Moment, start, Centres, HalfWidthsGrow, ShiftsWithin, NeverInward, UpperInside, LowerInside}
@@ -51,8 +52,11 @@ module _ (o : State) (q : Opens o) where
   after-words {bs} {rs} {s} h = later (rule3-answers-lead o s bs rs h) .0
 
 -- ---- the whole line, and what is read off it
+pub shifted-lines : (o : State) → Opens o → {s : State} {cs : List ShiftLine} → Moment o cs s → Each (Shifted (count Up cs) (count Down cs)) (o .lines) (s .lines)
+shifted-lines o q m = shifted-moment (opens o q) (later o q m .0)
+
 pub rule3-lines : LinesShifted
-rule3-lines o q bs rs s h = shifted-moment (opens o q) (after-words o q h)
+rule3-lines o q bs rs s h = shifted-lines o q (rule3-answers-lead o s bs rs h)
 
 pub rule3-centres : Centres
 rule3-centres o q bs rs s h = each-weaker _ _ (λ x l k. k .centre) (o .lines) (s .lines) (rule3-lines o q bs rs s h)

@@ -68,7 +68,7 @@ keys-in line before (k ∷ keys) e = go (key-good before k) refl e (keys-in (suc
 pub not-opened : {why : TableReason} {line : ℕ} {s : State} → refused why line ≡ opened s → ⊥
 not-opened e = let z : _≡_ {A = ℕ} 0 1 = cc in omega arith
 
-same-state : {s r : State} → opened s ≡ opened r → s ≡ r
+pub same-state : {s r : State} → opened s ≡ opened r → s ≡ r
 same-state e = cc
 
 -- the lines of the state are those opened already and one for each contract that is left

@@ -1,5 +1,5 @@
--- What follows from the words: proved of every session, so that nothing here has to be believed. It says in other terms what a reader may want
--- to know of the words: that no shift is left out or late, who called for each, that ticks are free, that no interest bound is too narrow.
+-- What follows from the words: proved, so that nothing here has to be believed. It says in other terms what a reader may want to know of the words,
+-- of every session: that no shift is left out or late, who called for each, that ticks are free, and that no interest bound is too narrow.
 pub mod Parted
 pub mod Seen
 pub mod Stages

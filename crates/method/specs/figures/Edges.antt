@@ -103,8 +103,8 @@ edges =
     ∷ figure (map pos (3 ∷ 7 ∷ 1 ∷ 0 ∷ 0 ∷ 0 ∷ [])) (one 106_043 1_000 1_721 100_000 500_000 2 1 [])
     -- D3. The next exponent above one that is on the desk's sheet, 100,000,000, whose factor is starred.
     ∷ figure (map pos (100_000_005 ∷ 1_105_170_941 ∷ [])) (map pos (exponent 744_898 49 ∷ up-factor 100_000_005 ∷ []))
-    -- M4. Above 0 there is an outer part, at the least exponent too. It carries the upper market bound 26,823 a step further than the series alone
-    -- would, at the exponent 100,000,000, and no smaller one; and the lower one 29,644.
+    -- M4. Above 0 there is an outer part, at the least exponent too. At the exponent 100,000,000 it carries the upper market bound 26,823 a step further
+    -- than the series alone would, and the one before it not; and the lower one 29,644.
     ∷ figure (map pos (1_000_000_021 ∷ 999_999_979 ∷ [])) (map pos (up-factor 1 ∷ down-factor 1 ∷ []))
     ∷ figure (map pos (29_643 ∷ 29_645 ∷ [])) (map (interest Up (up-factor 100_000_000)) (map pos (26_822 ∷ 26_823 ∷ [])))
     ∷ figure (map pos (29_643 ∷ 29_644 ∷ [])) (map (interest Up (series 100_000_000 12)) (map pos (26_822 ∷ 26_823 ∷ [])))

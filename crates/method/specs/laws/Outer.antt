@@ -1,13 +1,16 @@
 -- The growth factors beside thirteen terms of the exponential series in exact fractions: an up factor is never below their sum, a down factor never
 -- above one over it, and so no interest bound is too narrow (METHOD 6.6, 8.6). All fractions are cleared by 12! x 10^99, so that only whole numbers
--- are compared. The name in brackets is the theorem, in proofs/ExactTerms and proofs/Outer.
+-- are compared. The name in brackets is the theorem: in proofs/ExactTerms, proofs/Outer and proofs/Covered.
+use mathlib.Core.List.{List}
 use mathlib.Core.Path.{_≡_}
 use Prim.Native.Nat.{ℕ, zero, suc, _+_, _-_, _*_, _/_, _^_, _≤_}
 use lib.IntN.{ℤ, pos, negsuc, _*ℤ_}
 use lib.Signed.{_≤ℤ_}
-use Rattle.method.specs.words.Types.{Side, Up, Down}
+use Rattle.method.specs.words.Types.{Side, Up, Down, Line, ShiftLine, State}
+use Rattle.method.specs.words.Ranges.{Every}
 use Rattle.method.specs.words.Growth.{most-exponent, up-factor, down-factor, factors-of}
-use Rattle.method.specs.words.Bounds.{outward}
+use Rattle.method.specs.words.Bounds.{market-bound, outward, bound}
+use Rattle.method.specs.words.Rules.{Opens, Moment}
 
 -- n x (n - 1) x .. x 1
 unfoldable pub factorial : ℕ → ℕ
@@ -38,24 +41,36 @@ exact-sum y (suc k) = exact-sum y k + exact-term y (suc k)
 abbrev pub exact : ℕ → ℕ
 exact y = exact-sum y 12
 
--- ---- Both factors lie outward of the exact ones, and not far: at 0 they are exact. [factors-outward]
-pub record Outward (y : ℕ) : Type 0 where
+-- ---- Both factors lie on the outer side of the exact ones, and not far. At 0 they are exact. [factors-on-outer-side]
+pub record OnOuterSide (y : ℕ) : Type 0 where
   pub up-never-below : exact y ≤ up-factor y * billionth
   pub up-at-most-20-above : up-factor y * billionth ≤ exact y + 20 * billionth
   pub down-never-above : down-factor y * exact y ≤ 1_000_000_000 * one
   pub down-at-most-21-below : 1_000_000_000 * one ≤ (down-factor y + 21) * exact y
-  pub exact-at-zero : y ≡ 0 → (up-factor y ≡ 1_000_000_000) × (down-factor y ≡ 1_000_000_000)
+  pub exact-at-zero : y ≡ 0 → (up-factor y * billionth ≡ exact y) × (down-factor y * exact y ≡ 1_000_000_000 * one)
 
-abbrev pub FactorsOutward : Type 0
-FactorsOutward = (y : ℕ) → y ≤ most-exponent → Outward y
+abbrev pub FactorsOnOuterSide : Type 0
+FactorsOnOuterSide = (y : ℕ) → y ≤ most-exponent → OnOuterSide y
 
--- ---- The interest bound of a market bound z: z times the exact sum, where z goes away from zero, and z over it, where z goes toward zero, lies at
--- that bound or inside it. [never-too-narrow]
-unfoldable pub Covered : ℕ → Side → ℤ → Type 0
-Covered y Up (pos n) = (pos n *ℤ pos (exact y)) ≤ℤ (outward Up (factors-of y) (pos n) *ℤ pos one)
-Covered y Up (negsuc n) = (negsuc n *ℤ pos one) ≤ℤ (outward Up (factors-of y) (negsuc n) *ℤ pos (exact y))
-Covered y Down (pos n) = (outward Down (factors-of y) (pos n) *ℤ pos (exact y)) ≤ℤ (pos n *ℤ pos one)
-Covered y Down (negsuc n) = (outward Down (factors-of y) (negsuc n) *ℤ pos one) ≤ℤ (negsuc n *ℤ pos (exact y))
+-- ---- Interest bounds: a market bound z times the exact sum, where it goes away from zero, and over it, where it goes toward zero, lies at the bound b
+-- or further in.
+unfoldable pub Covers : ℕ → Side → ℤ → ℤ → Type 0
+Covers y Up (pos n) b = (pos n *ℤ pos (exact y)) ≤ℤ (b *ℤ pos one)
+Covers y Up (negsuc n) b = (negsuc n *ℤ pos one) ≤ℤ (b *ℤ pos (exact y))
+Covers y Down (pos n) b = (b *ℤ pos (exact y)) ≤ℤ (pos n *ℤ pos one)
+Covers y Down (negsuc n) b = (b *ℤ pos one) ≤ℤ (negsuc n *ℤ pos (exact y))
 
+-- So no interest bound that is drawn with our factors is too narrow. [never-too-narrow]
 abbrev pub NeverTooNarrow : Type 0
-NeverTooNarrow = (y : ℕ) → y ≤ most-exponent → (side : Side) (z : ℤ) → Covered y side z
+NeverTooNarrow = (y : ℕ) → y ≤ most-exponent → (side : Side) (z : ℤ) → Covers y side z (outward side (factors-of y) z)
+
+-- And of every session from an accepted table, at every moment of it: a line has the factors of an exponent that the cap admits, and neither of its
+-- interest bounds is too narrow. [bounds-covered]
+pub record Covered (l : Line) : Type 0 where
+  pub exponent : ℕ
+  pub cap : exponent ≤ most-exponent
+  pub factors : l .terms .factors ≡ factors-of exponent
+  pub bounds : (side : Side) → Covers exponent side (market-bound side (l .market .centre) (l .market .half1)) (bound side (l .terms .factors) (l .market))
+
+abbrev pub BoundsCovered : Type 0
+BoundsCovered = (o s : State) (cs : List ShiftLine) → Opens o → Moment o cs s → Every Covered (s .lines)
