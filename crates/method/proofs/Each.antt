@@ -30,14 +30,16 @@ each-weaker R S h [] (l ∷ ls) rs = rs
 each-weaker R S h (o ∷ os) [] rs = rs
 each-weaker R S h (o ∷ os) (l ∷ ls) rs = (h o l (rs .0), each-weaker R S h os ls (rs .1))
 
--- from a fact of the earlier one, a fact of the later one
-pub every-of-each : (P : Line → Type 0) (R : Line → Line → Type 0) (Q : Line → Type 0) → ((o l : Line) → P o → R o l → Q l) → (os ls : List Line) → Every P os
-    → Each R os ls → Every Q ls
-unfolding Every Each
-every-of-each P R Q h [] [] ps rs = tt
-every-of-each P R Q h [] (l ∷ ls) ps rs = absurd rs
-every-of-each P R Q h (o ∷ os) [] ps rs = tt
-every-of-each P R Q h (o ∷ os) (l ∷ ls) ps rs = (h o l (ps .0) (rs .0), every-of-each P R Q h os ls (ps .1) (rs .1))
+-- over a list between the two
+pub each-by : {A : Type 0} (R : A → Line → Type 0) (S : Line → Line → Type 0) (T : A → Line → Type 0) → ((x : A) (o l : Line) → R x o → S o l → T x l)
+    → (xs : List A) (os ls : List Line) → Each R xs os → Each S os ls → Each T xs ls
+unfolding Each
+each-by R S T h [] [] [] rs ss = tt
+each-by R S T h [] [] (l ∷ ls) rs ss = ss
+each-by R S T h [] (o ∷ os) ls rs ss = absurd rs
+each-by R S T h (x ∷ xs) [] ls rs ss = absurd rs
+each-by R S T h (x ∷ xs) (o ∷ os) [] rs ss = ss
+each-by R S T h (x ∷ xs) (o ∷ os) (l ∷ ls) rs ss = (h x o l (rs .0) (ss .0), each-by R S T h xs os ls (rs .1) (ss .1))
 
 pub each-map : (P : Line → Type 0) (R S : Line → Line → Type 0) (f : Line → Line) → ((o l : Line) → P l → R o l → S o (f l)) → (os ls : List Line) → Every P ls
     → Each R os ls → Each S os (map f ls)

@@ -7,9 +7,11 @@ use Prim.Native.Nat.{ℕ, zero, suc, _+_, _-_, _*_, _/_, _^_, _≤_}
 use lib.IntN.{ℤ, pos, negsuc, _*ℤ_}
 use lib.Signed.{_≤ℤ_}
 use Rattle.method.specs.words.Types.{Side, Up, Down, Line, ShiftLine, State}
-use Rattle.method.specs.words.Ranges.{Every}
 use Rattle.method.specs.words.Growth.{most-exponent, up-factor, down-factor, factors-of}
 use Rattle.method.specs.words.Bounds.{market-bound, outward, bound}
+use Rattle.method.specs.words.Opening.{exponent-of}
+use Rattle.method.specs.words.Tables.{keys-of, contracts-of}
+use Rattle.method.specs.words.Shifts.{Each}
 use Rattle.method.specs.words.Rules.{Opens, Moment}
 
 -- n x (n - 1) x .. x 1
@@ -64,13 +66,12 @@ Covers y Down (negsuc n) b = (b *ℤ pos one) ≤ℤ (negsuc n *ℤ pos (exact y
 abbrev pub NeverTooNarrow : Type 0
 NeverTooNarrow = (y : ℕ) → y ≤ most-exponent → (side : Side) (z : ℤ) → Covers y side z (outward side (factors-of y) z)
 
--- And of every session from an accepted table, at every moment of it: a line has the factors of an exponent that the cap admits, and neither of its
--- interest bounds is too narrow. [bounds-covered]
-pub record Covered (l : Line) : Type 0 where
-  pub exponent : ℕ
-  pub cap : exponent ≤ most-exponent
-  pub factors : l .terms .factors ≡ factors-of exponent
-  pub bounds : (side : Side) → Covers exponent side (market-bound side (l .market .centre) (l .market .half1)) (bound side (l .terms .factors) (l .market))
+-- Nor is one of a line whose contract has the exponent y,
+abbrev pub Covered : ℕ → Line → Type 0
+Covered y l = (side : Side) → Covers y side (market-bound side (l .market .centre) (l .market .half1)) (bound side (l .terms .factors) (l .market))
 
+-- at any moment of a session from an accepted table, contract by contract of it. [bounds-covered]
 abbrev pub BoundsCovered : Type 0
-BoundsCovered = (o s : State) (cs : List ShiftLine) → Opens o → Moment o cs s → Every Covered (s .lines)
+BoundsCovered =
+    (o s : State) (cs : List ShiftLine) (opens : Opens o) → Moment o cs s
+    → Each (λ c. Covered (exponent-of (keys-of (opens .table)) c)) (contracts-of (opens .table)) (s .lines)

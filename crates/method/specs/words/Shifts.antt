@@ -11,8 +11,8 @@ use Rattle.method.specs.words.Bounds.{bound}
 use Rattle.method.specs.words.Pressure.{presses}
 use Rattle.method.specs.words.Holds.{Life, remaining, hold-of}
 
--- ---- a relation between two lists of lines, line by line: no line is left out, and none is added
-unfoldable pub Each : (Line → Line → Type 0) → List Line → List Line → Type 0
+-- ---- a relation between two lists, as of lines, one by one: none is left out, and none is added
+unfoldable pub Each : {A B : Type 0} → (A → B → Type 0) → List A → List B → Type 0
 Each R [] [] = Unit {0}
 Each R [] (l ∷ ls) = ⊥
 Each R (o ∷ os) [] = ⊥
