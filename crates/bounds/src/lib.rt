@@ -1,5 +1,7 @@
 // Market bounds and interest bounds of a line; beside them the floor of one step under its lower limit, and rounding toward a side.
 
+#![tactic(auto)]
+
 ghost use Rattle.std.specs.Prelude.{◌≡◌, ◌≤◌};
 ghost use Rattle.numbers.specs.Ranges.{Within};
 ghost use Rattle.method.specs.words.Bounds.{market_bound, factor, interest, bound};

@@ -1,5 +1,7 @@
 // The closing rows: what stands at the end, one row for each contract, in the table's order.
 
+#![tactic(auto)]
+
 ghost use Rattle.std.specs.Prelude.{◌≡◌, length};
 ghost use Rattle.corridor.specs.View.{Valid};
 ghost use Rattle.closing.specs.Closing.{closed, closed_into};

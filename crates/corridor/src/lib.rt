@@ -1,5 +1,7 @@
 // A session: opened from a morning table, it takes timed events and answers with shifts.
 
+#![tactic(auto)]
+
 ghost use Rattle.std.specs.Prelude.{◌≡◌};
 ghost use Rattle.method.specs.computed.Table.{opening};
 ghost use Rattle.corridor.specs.View.{opened_session};

@@ -1,6 +1,8 @@
 // The rows that are told, as a count of their numbers. For a caller that lends the room there is nothing to refuse: the events of a chunk are
 // answered, and the closing rows written.
 
+#![tactic(auto)]
+
 ghost use Rattle.std.specs.Prelude.{◌≡◌, ◌≤◌, length};
 ghost use Rattle.rows.specs.Buffer.{written};
 ghost use Rattle.corridor.specs.View.{Valid};

@@ -1,5 +1,7 @@
 // When a hold falls due, which of two goes first, and the search for the one that does, one line at a time.
 
+#![tactic(auto)]
+
 ghost use Rattle.std.specs.Prelude.{◌≡◌, ◌≤◌};
 ghost use Rattle.method.specs.words.Ranges.{longest_hold};
 ghost use Rattle.method.specs.computed.Search.{due_of, ahead, sooner, passed, in_time};

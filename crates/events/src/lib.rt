@@ -1,5 +1,7 @@
 // Where an event of a buffer ends, and what its byte string says: a tick, a quote, or why it is no event.
 
+#![tactic(auto)]
+
 ghost use Rattle.std.specs.Prelude.{◌≡◌, ◌+◌, ◌≤◌, ◌<◌, pos, length};
 ghost use Rattle.numbers.specs.Tests.{same};
 ghost use Rattle.method.specs.words.Wire.{word, signed};

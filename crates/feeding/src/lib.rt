@@ -1,5 +1,7 @@
 // A whole buffer of events: their answers as rows of numbers, in a buffer that the caller lends.
 
+#![tactic(auto)]
+
 ghost use Rattle.std.specs.Prelude.{◌≡◌, ◌≤◌, length};
 ghost use Rattle.corridor.specs.View.{view, Valid};
 ghost use Rattle.feeding.specs.Quiet.{quiet_until};

@@ -1,6 +1,8 @@
 // Program `figures`: rates, exponents and factors, and what stands on the lines of one table, at opening and between events, all worked out
 // by the proved functions. Its input is figures.txt, made into bytes; `stdout` has the figures that were asked for.
 
+#![tactic(auto)]
+
 ghost use Rattle.std.specs.Prelude.{◌≡◌, length};
 ghost use Rattle.corridor.specs.View.{Valid};
 

@@ -1,5 +1,7 @@
 // Rate at the days left, exponent, and growth factors.
 
+#![tactic(auto)]
+
 ghost use Rattle.std.specs.Prelude.{◌≡◌, ◌+◌, ◌≤◌, ◌<◌, pos, take};
 ghost use Rattle.method.specs.words.Ranges.{most_keys, largest_rate, most_days};
 ghost use Rattle.method.specs.words.Growth.{between_keys, rate_at, most_exponent, exponent, series, up_factor, factors_of};

@@ -1,6 +1,8 @@
 // The desk's sheet of growth factors, one for each whole thousandth that an exponent may be: what the risk desk checks by hand is what the engine
 // answers with.
 
+#![tactic(auto)]
+
 ghost use Rattle.std.specs.Prelude.{◌≡◌, ◌*◌, ◌≤◌};
 ghost use Rattle.method.specs.words.Growth.{most_exponent, up_factor};
 ghost use Rattle.growth_sheet.specs.Sheet.{a_thousandth};

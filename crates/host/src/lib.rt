@@ -3,6 +3,8 @@
 // so each function that reads it, unless its name says unchecked, decides that first, and refuses such memory with a number of its own;
 // everything is then as it was.
 
+#![tactic(auto)]
+
 ghost use Rattle.std.specs.Prelude.{◌≡◌, pos, length};
 ghost use Rattle.method.specs.words.Types.{steps};
 ghost use Rattle.method.specs.told.Refusals.{table_said, event_said, limits_said, report_said};

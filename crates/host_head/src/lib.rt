@@ -1,6 +1,8 @@
 // Whether what a session has beside its lines is in range, and no id stands twice. A host keeps a session in memory of its own and may have
 // damaged it, so any numbers may stand there.
 
+#![tactic(auto)]
+
 ghost use Rattle.std.specs.Prelude.{◌≤◌, length, drop};
 ghost use Rattle.numbers.specs.Decides.{Decides};
 ghost use Rattle.method.specs.computed.Sound.{Distinct};

@@ -1,6 +1,8 @@
 // Whether the numbers in a host's memory are a session as every session is. Any numbers may stand there: what fails a test ends it, and
 // only numbers that passed are worked with.
 
+#![tactic(auto)]
+
 ghost use Rattle.std.specs.Prelude.{◌≡◌};
 ghost use Rattle.numbers.specs.Decides.{Decides};
 ghost use Rattle.method.specs.words.Types.{session_ids};

@@ -1,6 +1,8 @@
 // Whether a line is as in every session. A host keeps a session in memory of its own and may have damaged it, so any numbers may stand on a
 // line, and what the methods of a session ask of it is decided.
 
+#![tactic(auto)]
+
 ghost use Rattle.std.specs.Prelude.{◌≤◌};
 ghost use Rattle.numbers.specs.Decides.{Decides};
 ghost use Rattle.method.specs.words.Ranges.{most_shifts, largest_near_share};

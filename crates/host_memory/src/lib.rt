@@ -1,6 +1,8 @@
 // A session as 33 pairs of rows of 16 numbers, in memory that a host owns: the whole session out of it and into it; and its head, one line of
 // it, or what an event changes of these, where it lies. No crate above this one knows a place in the memory.
 
+#![tactic(auto)]
+
 ghost use Rattle.std.specs.Prelude.{◌≡◌, ◌<◌, length, get_or};
 ghost use Rattle.method.specs.words.Types.{blank};
 ghost use Rattle.corridor.specs.View.{moved_on, with_line};

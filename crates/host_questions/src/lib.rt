@@ -1,6 +1,8 @@
 // Questions on one line of a session in a host's memory, asked where the session lies: its limits, the place of an order price, and all
 // that stands on it.
 
+#![tactic(auto)]
+
 ghost use Rattle.std.specs.Prelude.{◌≡◌, ◌≤◌, pos};
 ghost use Rattle.method.specs.words.Types.{steps};
 ghost use Rattle.method.specs.words.Ranges.{longest_hold};

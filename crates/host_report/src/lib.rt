@@ -1,5 +1,7 @@
 // What stands on one line, in four rows of six numbers for C: each value has its own place, and 0 stands where a hold or a price does not.
 
+#![tactic(auto)]
+
 ghost use Rattle.std.specs.Prelude.{◌≡◌, pos};
 ghost use Rattle.method.specs.told.Refusals.{mark};
 ghost use Rattle.host_report.specs.ReportRows.{hold_told, price_told, limit_row, market_row, hold_row, book_row, report_rows};

@@ -2,6 +2,8 @@
 // a quote leaves alone and bounds are drawn from, terms and market; the second limits, book and holds, which are judged, and written together.
 // Numbers that a row has no use for are written as 0 and not read: they are room for what later requests add to a line.
 
+#![tactic(auto)]
+
 use numbers::{Millionths, Seconds};
 
 pub mod reading;

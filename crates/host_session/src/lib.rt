@@ -1,5 +1,7 @@
 // What opens a session in a host's memory and what changes it there: a table, one event, a buffer of events; and its closing rows.
 
+#![tactic(auto)]
+
 ghost use Rattle.std.specs.Prelude.{◌≡◌, pos, ◌<◌, length, get_or};
 ghost use Rattle.method.specs.words.Types.{blank, session_ids};
 ghost use Rattle.method.specs.told.Refusals.{table_said, event_said};

@@ -1,5 +1,7 @@
 // What is told of one line: the place of an order price, all that stands on it, and its closing row.
 
+#![tactic(auto)]
+
 ghost use Rattle.std.specs.Prelude.{◌≡◌, ◌≤◌};
 ghost use Rattle.numbers.specs.Ranges.{Within};
 ghost use Rattle.method.specs.words.Ranges.{longest_hold};

@@ -27,7 +27,7 @@ pub moment_after : {o s : State} {cs : List ShiftLine} (t : Seconds) (ds es : Li
     → Later o (cs ++ ds) (after ds s)
 unfolding Calls after
 moment_after t [] es m h = rw append-nil m
-moment_after t (d ∷ ds) es m h = rw append_assoc at (moment_after t ds es (shift m t d h.0) h.1)
+moment_after {s = s} t (d ∷ ds) es m h = rw append_assoc at (moment_after {s = onward s d} t ds es (shift m t d h.0) h.1)
 
 pub moment_next : {o s : State} {cs : List ShiftLine} (b : List ℕ) (a : Answer) → Later o cs s → Right s (read b) a
     → Later o (cs ++ lines_of a) (next s (read b) a)
@@ -42,7 +42,7 @@ unfolding Answers reached joined
 moment_reached [] [] m r = rw append-nil m
 moment_reached [] (a ∷ rs) m r = absurd r
 moment_reached (b ∷ bs) [] m r = absurd r
-moment_reached (b ∷ bs) (a ∷ rs) m r = rw append_assoc at (moment_reached bs rs (moment_next b a m r.0) r.1)
+moment_reached {s = s} (b ∷ bs) (a ∷ rs) m r = rw append_assoc at (moment_reached {s = next s (read b) a} bs rs (moment_next b a m r.0) r.1)
 
 -- ---- what is split: a list of shift lines, and a list of answers
 pub moment_rest : (s : State) (b : List ℕ) (cs ds : List ShiftLine) → Right s (read b) (accepted (cs ++ ds))

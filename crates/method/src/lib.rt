@@ -1,6 +1,8 @@
 // The plain data of the method, parted as specs/ is, and the ends of ranges for the code. No function runs here: specs/ says over these types what
 // is right, and the crates above compute it.
 
+#![tactic(auto)]
+
 ghost use Rattle.std.specs.Prelude.{[], ◌∷◌, ◌≡◌};
 ghost use Rattle.method.specs.words.Ranges.{most_contracts, most_keys, longest_session, longest_hold, most_shifts, largest_near_share, whole, largest_rate, most_days, largest_price, largest_quote};
 ghost use Rattle.method.specs.words.Growth.{most_exponent};

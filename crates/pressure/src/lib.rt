@@ -1,5 +1,7 @@
 // Pressure on each side, and what it does to holds: of whatever has limits, a book and holds, and so of a line.
 
+#![tactic(auto)]
+
 ghost use Rattle.std.specs.Prelude.{◌≡◌, ◌-ℤ◌};
 ghost use Rattle.method.specs.words.Pressure.{near_by, close, price, under_pressure, presses};
 ghost use Rattle.method.specs.computed.Judge.{judged, judge, judge_line};

@@ -1,6 +1,8 @@
 // Questions on one line of a session: its limits, the place of an order price, and all that stands on it. They know only refusal 13, serve
 // no hold and know no time.
 
+#![tactic(auto)]
+
 ghost use Rattle.std.specs.Prelude.{◌≡◌};
 ghost use Rattle.method.specs.told.Questions.{limits, place};
 ghost use Rattle.method.specs.told.Report.{report};

@@ -1,5 +1,7 @@
 // Rows of six numbers, and rows written into a buffer that the caller lends.
 
+#![tactic(auto)]
+
 ghost use Rattle.std.specs.Prelude.{◌≡◌, map, ◌+◌, ◌*◌, ◌≤◌, pos, length, take};
 ghost use Rattle.method.specs.words.Ranges.{most_shifts};
 ghost use Rattle.method.specs.declared.Row.TheVariants as RowOf;

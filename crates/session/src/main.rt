@@ -5,6 +5,8 @@
 // a failure is not the end of the input. Where a write fails, the program stops. Its exit status is 0 all the same, since the language has no
 // other; an output that ends otherwise than in a `T` line or the last closing line tells it.
 
+#![tactic(auto)]
+
 ghost use Rattle.std.specs.Prelude.{◌≡◌, length};
 ghost use Rattle.session.specs.Reading.{longest_table};
 

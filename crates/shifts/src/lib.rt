@@ -1,5 +1,7 @@
 // What a shift and a quote do to one line: its numbers, its book and its holds.
 
+#![tactic(auto)]
+
 ghost use Rattle.std.specs.Prelude.{◌≡◌};
 ghost use Rattle.numbers.specs.Ranges.{Within};
 ghost use Rattle.method.specs.computed.Shift.{toward, moved, redrawn, ended, moved_line, shift_line};

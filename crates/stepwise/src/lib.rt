@@ -1,6 +1,8 @@
 // A buffer of events handed to a session's `event` piece by piece: the way of a host that gets its events one at a time. Its promise is
 // that of `feeding::feed`, word for word, so that the two are one.
 
+#![tactic(auto)]
+
 ghost use Rattle.std.specs.Prelude.{◌≡◌, ◌+◌, ◌≤◌, length};
 ghost use Rattle.rows.specs.Buffer.{written};
 ghost use Rattle.rows.specs.Fits.{largest_number};

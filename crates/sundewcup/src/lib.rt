@@ -1,5 +1,7 @@
 // A whole session in one call, from a table and its events to the rows that they give; and the same for C.
 
+#![tactic(auto)]
+
 ghost use Rattle.std.specs.Prelude.{◌≡◌, length};
 ghost use Rattle.counting.specs.Counted.{number_in};
 ghost use Rattle.sundewcup.specs.Running.{ran, ran_into};

@@ -1,5 +1,7 @@
 // The morning table: bytes to opened lines, or a refusal with its line.
 
+#![tactic(auto)]
+
 ghost use Rattle.std.specs.Prelude.{◌≡◌, [], ◌≤◌, length, take};
 ghost use Rattle.method.specs.words.Layout.{header_of, contracts_start, table_length, contracts_at};
 ghost use Rattle.method.specs.words.Ranges.{most_contracts};

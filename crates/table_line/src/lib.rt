@@ -1,5 +1,7 @@
 // One contract as it opens: its numbers, its corridor, or its refusal.
 
+#![tactic(auto)]
+
 ghost use Rattle.std.specs.Prelude.{◌≡◌, ◌≤◌, pos, nat_abs};
 ghost use Rattle.numbers.specs.Ranges.{Within, Between, Span};
 ghost use Rattle.method.specs.words.Ranges.{whole, largest_price, ContractIn};

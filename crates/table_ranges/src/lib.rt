@@ -1,5 +1,7 @@
 // What the records of a morning table must keep to: the tests behind refusals 1, 3, 4 and 5.
 
+#![tactic(auto)]
+
 ghost use Rattle.std.specs.Prelude.{◌≡◌, ◌&&◌, ◌||◌, ◌≤◌, leb, pos, take};
 ghost use Rattle.std.specs.Int.Signed.{le_z};
 ghost use Rattle.numbers.specs.Tests.{in_range, in_span};

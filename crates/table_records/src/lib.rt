@@ -1,5 +1,7 @@
 // The records of a morning table: header, keys and contracts out of its bytes. What they must keep to is tested in `table_ranges`.
 
+#![tactic(auto)]
+
 ghost use Rattle.std.specs.Prelude.{◌≡◌, ◌+◌, ◌*◌, ◌≤◌, length};
 ghost use Rattle.numbers.specs.Arrays.{padded};
 ghost use Rattle.method.specs.words.Layout.{header_of, key_at, contract_at, keys_at};

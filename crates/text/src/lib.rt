@@ -1,5 +1,7 @@
 // A row of six numbers as a line of text, and all rows of a buffer, in a buffer of bytes that the caller lends.
 
+#![tactic(auto)]
+
 ghost use Rattle.std.specs.Prelude.{◌≡◌, [], ◌∷◌, ◌++◌, ◌+◌, ◌*◌, ◌≤◌, nat_abs, length, take, drop};
 ghost use Rattle.method.specs.told.Text.{ascii, signed_text};
 ghost use Rattle.rows.specs.Buffer.{written};

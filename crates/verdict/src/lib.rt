@@ -1,5 +1,7 @@
 // Whether an event is taken, and what it then changes.
 
+#![tactic(auto)]
+
 ghost use Rattle.std.specs.Prelude.{◌≡◌};
 ghost use Rattle.method.specs.computed.Event.{in_session, not_crossed, quote_answer};
 ghost use Rattle.method.specs.computed.Sound.{Distinct};

@@ -1,5 +1,7 @@
 // Fields out of bytes: little-endian 32-bit words, their reading as signed numbers, and the bits of a flag word.
 
+#![tactic(auto)]
+
 ghost use Rattle.std.specs.Prelude.{◌≡◌, ◌+◌, ◌<◌, ◌≤◌, ltb, length};
 ghost use Rattle.method.specs.words.Wire.{word, signed, bit};
 
