@@ -13,7 +13,7 @@ pub mod event;
 pub mod serving;
 
 // The table's lines stand in the first `count` places, in its order. `left` is how many shifts may still be made.
-#[derive(Drop)]
+#[derive(Clone, Copy)]
 pub struct Session {
     pub lines: [Line; 32],
     pub count: usize,
@@ -26,14 +26,14 @@ pub struct Session {
 
 // The answer to a table, and beside it the session. A refused table opens none: what stands beside it has no lines and hold seconds 0, which
 // no session has, so that no function takes it.
-#[derive(Drop)]
+#[derive(Clone, Copy)]
 pub struct OpenReply {
     pub answer: TableAnswer,
     pub session: Session,
 }
 
 // The shift lines that are made stand in the first `made` places, in their order.
-#[derive(Drop)]
+#[derive(Clone, Copy)]
 pub struct Served {
     pub shifts: [ShiftLine; 16],
     pub made: usize,
@@ -41,7 +41,7 @@ pub struct Served {
 }
 
 // The answer to an event with its shift lines, and beside it the session. A refused event changes nothing.
-#[derive(Drop)]
+#[derive(Clone, Copy)]
 pub struct Reply {
     pub answer: EventAnswer,
     pub shifts: [ShiftLine; 16],

@@ -24,7 +24,7 @@ pub fn number_in(answer: RowsAnswer) -> usize
 }
 
 // How many numbers the answers to a chunk have, and the session that it leaves.
-#[derive(Drop)]
+#[derive(Clone, Copy)]
 pub struct Tally {
     pub count: usize,
     pub session: Session,

@@ -16,7 +16,7 @@ use verdict::{Change, Verdict};
 const MOST_SHIFTS: usize = method::MOST_SHIFTS as usize;
 
 // The answer to a buffer of events, and beside it the session.
-#[derive(Drop)]
+#[derive(Clone, Copy)]
 pub struct Fed {
     pub answer: RowsAnswer,
     pub session: Session,

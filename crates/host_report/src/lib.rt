@@ -22,7 +22,7 @@ fn wide(n: u32) -> i64
 }
 
 // Whether a hold stands, since when, and when it falls due.
-#[derive(Drop)]
+#[derive(Clone, Copy)]
 pub struct HoldNumbers {
     pub stands: i64,
     pub start: i64,
@@ -47,7 +47,7 @@ fn hold_numbers(h: HoldReport) -> HoldNumbers
 }
 
 // Whether a price is given, and which.
-#[derive(Drop)]
+#[derive(Clone, Copy)]
 pub struct PriceNumbers {
     pub given: i64,
     pub price: i64,

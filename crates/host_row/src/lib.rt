@@ -10,7 +10,7 @@ pub mod reading;
 pub mod writing;
 
 // The head of a session: what it has beside its lines, in a row of its own.
-#[derive(Drop)]
+#[derive(Clone, Copy)]
 pub struct Head {
     pub count: usize,
     pub clock: Seconds,

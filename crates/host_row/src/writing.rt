@@ -30,7 +30,7 @@ fn signed_number(z: Steps) -> u64
 }
 
 // The two numbers of a price or a hold.
-#[derive(Drop)]
+#[derive(Clone, Copy)]
 pub struct Two {
     pub there: u64,
     pub number: u64,

@@ -83,7 +83,7 @@ fn by_value(
 }
 
 // What a walk over the lines says of an event, and the second before which no hold falls due, whatever the event.
-#[derive(Drop)]
+#[derive(Clone, Copy)]
 pub struct Seen {
     pub verdict: Verdict,
     pub quiet: Seconds,

@@ -13,7 +13,7 @@ use numbers::{Billionths, Millionths, Seconds, Steps};
 
 // ---- the morning table
 
-#[derive(Drop)]
+#[derive(Clone, Copy)]
 pub struct Header {
     pub edition: u32,
     pub contracts: u32,
@@ -27,14 +27,14 @@ pub struct Header {
     pub shift: Millionths,
 }
 
-#[derive(Drop)]
+#[derive(Clone, Copy)]
 pub struct Key {
     pub days: u32,
     pub rate: Millionths,
 }
 
 // The ten fields of a contract, in the table's order.
-#[derive(Drop)]
+#[derive(Clone, Copy)]
 pub struct Contract {
     pub price: Steps,
     pub spot: Steps,
@@ -50,20 +50,20 @@ pub struct Contract {
 
 // ---- a line: five records, each changed by one kind of thing
 
-#[derive(Drop)]
+#[derive(Clone, Copy)]
 pub enum Side {
     Up,
     Down,
 }
 
-#[derive(Drop)]
+#[derive(Clone, Copy)]
 pub struct Factors {
     pub up: Billionths,
     pub down: Billionths,
 }
 
 // Fixed for the session.
-#[derive(Drop)]
+#[derive(Clone, Copy)]
 pub struct Terms {
     pub id: u32,
     pub flags: u32,
@@ -72,7 +72,7 @@ pub struct Terms {
 }
 
 // Changed by every shift: the centre, and the half-width of each level.
-#[derive(Drop)]
+#[derive(Clone, Copy)]
 pub struct Market {
     pub centre: Steps,
     pub half1: Steps,
@@ -81,41 +81,41 @@ pub struct Market {
 }
 
 // Changed by the shifts of one side each.
-#[derive(Drop)]
+#[derive(Clone, Copy)]
 pub struct Limits {
     pub upper: Steps,
     pub lower: Steps,
     pub frozen: bool,
 }
 
-#[derive(Drop)]
+#[derive(Clone, Copy)]
 pub enum Price {
     Absent,
     Given(Steps),
 }
 
 // Changed by the contract's quotes.
-#[derive(Drop)]
+#[derive(Clone, Copy)]
 pub struct Book {
     pub bid: Price,
     pub ask: Price,
 }
 
 // `Since` has the second at which pressure started.
-#[derive(Drop)]
+#[derive(Clone, Copy)]
 pub enum Hold {
     Idle,
     Since(Seconds),
 }
 
 // Changed wherever pressure starts or ends.
-#[derive(Drop)]
+#[derive(Clone, Copy)]
 pub struct Holds {
     pub up: Hold,
     pub down: Hold,
 }
 
-#[derive(Drop)]
+#[derive(Clone, Copy)]
 pub struct Line {
     pub terms: Terms,
     pub market: Market,
@@ -126,7 +126,7 @@ pub struct Line {
 
 // ---- shifts
 
-#[derive(Drop)]
+#[derive(Clone, Copy)]
 pub struct ShiftLine {
     pub second: Seconds,
     pub side: Side,
@@ -134,7 +134,7 @@ pub struct ShiftLine {
 }
 
 // A hold that falls due: when, on which side, and at which place of the table, from 0.
-#[derive(Drop)]
+#[derive(Clone, Copy)]
 pub struct Due {
     pub second: Seconds,
     pub side: Side,
@@ -144,7 +144,7 @@ pub struct Due {
 // ---- refusals, and the answer to an event
 
 // The fields of a contract that have a range, in the table's order: all but the id, which has a refusal of its own.
-#[derive(Drop)]
+#[derive(Clone, Copy)]
 pub enum Field {
     Price,
     Spot,
@@ -158,7 +158,7 @@ pub enum Field {
 }
 
 // Refusals 1 to 9, in the order of their numbers; 5 names the field at fault.
-#[derive(Drop)]
+#[derive(Clone, Copy)]
 pub enum TableReason {
     Length,
     Edition,
@@ -172,7 +172,7 @@ pub enum TableReason {
 }
 
 // Refusals 10 to 16, in the order of their numbers.
-#[derive(Drop)]
+#[derive(Clone, Copy)]
 pub enum EventReason {
     AfterEnd,
     BeforeClock,
@@ -183,7 +183,7 @@ pub enum EventReason {
     PriceOutOfRange,
 }
 
-#[derive(Drop)]
+#[derive(Clone, Copy)]
 pub enum EventAnswer {
     Accepted,
     Refused(EventReason),
@@ -192,19 +192,19 @@ pub enum EventAnswer {
 // ==== of what is told
 
 // A refusal has its line, counted from 1, or 0 where the header is at fault.
-#[derive(Drop)]
+#[derive(Clone, Copy)]
 pub enum TableAnswer {
     Opened,
     Refused(TableReason, u32),
 }
 
-#[derive(Drop)]
+#[derive(Clone, Copy)]
 pub enum LimitsAnswer {
     Standing(Limits),
     Refused(EventReason),
 }
 
-#[derive(Drop)]
+#[derive(Clone, Copy)]
 pub enum PlaceAnswer {
     Below,
     Inside,
@@ -213,27 +213,27 @@ pub enum PlaceAnswer {
 }
 
 // An upper and a lower bound of one kind.
-#[derive(Drop)]
+#[derive(Clone, Copy)]
 pub struct BothBounds {
     pub upper: Steps,
     pub lower: Steps,
 }
 
 // When a hold started, and when it falls due.
-#[derive(Drop)]
+#[derive(Clone, Copy)]
 pub struct HoldTimes {
     pub start: Seconds,
     pub due: Seconds,
 }
 
-#[derive(Drop)]
+#[derive(Clone, Copy)]
 pub enum HoldReport {
     NoHold,
     Holding(HoldTimes),
 }
 
 // What stands on one line: the market bounds by level, the hold of each side, and of the session the shifts left and the clock.
-#[derive(Drop)]
+#[derive(Clone, Copy)]
 pub struct Report {
     pub limits: Limits,
     pub interest: BothBounds,
@@ -248,7 +248,7 @@ pub struct Report {
     pub clock: Seconds,
 }
 
-#[derive(Drop)]
+#[derive(Clone, Copy)]
 pub enum ReportAnswer {
     Standing(Report),
     Refused(EventReason),
@@ -256,7 +256,7 @@ pub enum ReportAnswer {
 
 // ---- what the program prints
 
-#[derive(Drop)]
+#[derive(Clone, Copy)]
 pub struct Closing {
     pub id: u32,
     pub lower: Steps,
@@ -266,7 +266,7 @@ pub struct Closing {
 }
 
 // A refused event has its place in the buffer, counted from 1.
-#[derive(Drop)]
+#[derive(Clone, Copy)]
 pub enum Row {
     Shift(ShiftLine),
     RefusedEvent(EventReason, usize),
@@ -277,13 +277,13 @@ pub enum Row {
 // ==== of what is computed
 
 // Which sides are watched: of a contract both, or neither.
-#[derive(Drop)]
+#[derive(Clone, Copy)]
 pub struct Watch {
     pub up: bool,
     pub down: bool,
 }
 
-#[derive(Drop)]
+#[derive(Clone, Copy)]
 pub struct Quote {
     pub time: Seconds,
     pub id: u32,
@@ -292,27 +292,27 @@ pub struct Quote {
 }
 
 // What a byte string says. `Damaged` is every one that is no event, with the refusal that says why.
-#[derive(Drop)]
+#[derive(Clone, Copy)]
 pub enum Event {
     Damaged(EventReason),
     Tick(Seconds),
     Quoted(Quote),
 }
 
-#[derive(Drop)]
+#[derive(Clone, Copy)]
 pub enum Found {
     Nothing,
     At(Due),
 }
 
 // What the ranges of a contract's fields come to: all good, or the first field that is not.
-#[derive(Drop)]
+#[derive(Clone, Copy)]
 pub enum FieldsAnswer {
     Good,
     Bad(Field),
 }
 
-#[derive(Drop)]
+#[derive(Clone, Copy)]
 pub enum LineAnswer {
     Opened(Line),
     Refused(TableReason),

@@ -13,7 +13,7 @@ use corridor::Session;
 use method::{EventReason, LimitsAnswer, Line, PlaceAnswer, ReportAnswer};
 use numbers::Steps;
 
-#[derive(Drop)]
+#[derive(Clone, Copy)]
 pub enum Sought {
     At(Line),
     Nowhere,

@@ -13,7 +13,7 @@ ghost use Rattle.rows.specs.Fits.{largest_number, Fits};
 use method::{Closing, EventReason, Field, Row, ShiftLine, Side, TableReason};
 
 // The answer that is written in rows: how many numbers there are, or how many the lent buffer would have to take, and nothing done.
-#[derive(Drop)]
+#[derive(Clone, Copy)]
 pub enum RowsAnswer {
     Written(usize),
     NoRoom(usize),

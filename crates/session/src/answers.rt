@@ -12,7 +12,7 @@ use corridor::Session;
 use method::{Row, TableReason};
 
 // The session that a chunk leaves, and how many bytes its answers have.
-#[derive(Drop)]
+#[derive(Clone, Copy)]
 pub(crate) struct ChunkText {
     pub(crate) session: Session,
     pub(crate) size: usize,

@@ -29,7 +29,7 @@ fn text_room() -> [u8; 247680]
 }
 
 // The session that the chunks left, and whether all went well: the input was read to its end, and all was written.
-#[derive(Drop)]
+#[derive(Clone, Copy)]
 struct Said {
     session: Session,
     whole: bool,

@@ -18,7 +18,7 @@ mod events;
 mod reading;
 
 // What reading into a slice came to: so many bytes at its start, fewer than it has only where the input ended; or a read failed.
-#[derive(Drop)]
+#[derive(Clone, Copy)]
 pub enum Filled {
     To(usize),
     Failed,

@@ -102,7 +102,7 @@ fn open_line(
 
 // The answer, and beside it, where a session is opened, its lines and the header's numbers; where it is refused, no lines, and every
 // number 0. No table that opens may say hold seconds 0, so that those numbers are no session's.
-#[derive(Drop)]
+#[derive(Clone, Copy)]
 pub struct TableReply {
     pub answer: TableAnswer,
     pub lines: [Line; 32],

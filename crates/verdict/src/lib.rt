@@ -11,26 +11,26 @@ use method::{Event, EventAnswer, EventReason, Price, Quote};
 use numbers::Seconds;
 
 // A quote, and the place of its line in the table, from 0.
-#[derive(Drop)]
+#[derive(Clone, Copy)]
 pub struct PlacedQuote {
     pub place: usize,
     pub quote: Quote,
 }
 
 // What an event changes beside the clock: a tick nothing, a quote its line.
-#[derive(Drop)]
+#[derive(Clone, Copy)]
 pub enum Change {
     Nothing,
     Quote(PlacedQuote),
 }
 
-#[derive(Drop)]
+#[derive(Clone, Copy)]
 pub struct Taken {
     pub time: Seconds,
     pub change: Change,
 }
 
-#[derive(Drop)]
+#[derive(Clone, Copy)]
 pub enum Verdict {
     Refused(EventReason),
     Taken(Taken),
