@@ -12,6 +12,7 @@ use method::{Due, Found, Hold, Holds, Side};
 use numbers::Seconds;
 
 // When a hold falls due.
+#[tactic(auto, unfolding(method::specs::computed::Search::due_of, method::specs::computed::Rooms::HoldIn))]
 fn due_of(side: Side, wait: Seconds, place: usize, h: Hold) -> Found
     requires { HoldIn h × (wait.0 ≤ longest_hold) }
     ensures { result ≡ due_of side wait place h }
@@ -27,6 +28,7 @@ fn due_of(side: Side, wait: Seconds, place: usize, h: Hold) -> Found
 }
 
 // Whether x goes before y, which stands at no later place: by its second, and at one second up before down.
+#[tactic(auto, unfolding(method::specs::computed::Search::ahead))]
 fn ahead(x: Due, y: Due) -> bool
     ensures { result ≡ ahead x y }
 {
@@ -50,6 +52,7 @@ fn ahead(x: Due, y: Due) -> bool
 }
 
 // The best so far, unless d goes before it.
+#[tactic(auto, unfolding(method::specs::computed::Search::sooner))]
 fn sooner(best: Found, d: Found) -> Found
     ensures { result ≡ sooner best d }
 {
@@ -68,6 +71,7 @@ fn sooner(best: Found, d: Found) -> Found
 }
 
 // One more line passed.
+#[tactic(auto, unfolding(method::specs::computed::Search::passed))]
 pub fn passed(wait: Seconds, place: usize, h: Holds, best: Found) -> Found
     requires { HoldsIn h × (wait.0 ≤ longest_hold) }
     ensures { result ≡ passed wait place h best }
@@ -79,6 +83,7 @@ pub fn passed(wait: Seconds, place: usize, h: Holds, best: Found) -> Found
 }
 
 // The hold, where it is due at or before t and before session end, while shifts are left.
+#[tactic(auto, unfolding(method::specs::computed::Search::in_time))]
 pub fn in_time(t: Seconds, end: Seconds, left: u32, d: Found) -> Found
     ensures { result ≡ in_time t end left d }
 {
@@ -101,6 +106,7 @@ pub fn in_time(t: Seconds, end: Seconds, left: u32, d: Found) -> Found
 }
 
 // The nearer of two seconds: the one before which nothing is due so far, and the one at which the hold falls due.
+#[tactic(auto, unfolding(crate::specs::Quiet::nearer, method::specs::computed::Rooms::HoldIn))]
 fn nearer(quiet: Seconds, wait: Seconds, h: Hold) -> Seconds
     requires { HoldIn h × (wait.0 ≤ longest_hold) }
     ensures { result ≡ nearer quiet wait h }
