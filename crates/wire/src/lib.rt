@@ -13,6 +13,7 @@ fn wide(x: u8) -> u32
 }
 
 // The field whose lowest byte stands at `at`.
+#[tactic(auto, unfolding(method::specs::words::Wire::word))]
 pub fn word(bytes: &[u8], at: usize) -> u32
     requires { at + 4 ≤ length bytes.now }
     ensures { result ≡ word bytes.now at }
@@ -25,6 +26,7 @@ pub fn word(bytes: &[u8], at: usize) -> u32
 }
 
 // The same field as two's complement.
+#[tactic(auto, unfolding(method::specs::words::Wire::signed))]
 pub fn signed_word(bytes: &[u8], at: usize) -> i64
     requires { at + 4 ≤ length bytes.now }
     ensures { result ≡ signed (word bytes.now at) }
@@ -38,6 +40,7 @@ pub fn signed_word(bytes: &[u8], at: usize) -> i64
 }
 
 // Bit 0 of a flag word: a contract's permits negative prices, an event's says that a bid is present.
+#[tactic(auto, unfolding(method::specs::words::Wire::bit))]
 pub fn bit_0(flags: u32) -> bool
     ensures { result ≡ bit 0 flags }
 {
@@ -45,6 +48,7 @@ pub fn bit_0(flags: u32) -> bool
 }
 
 // Bit 1: a contract's puts it under watch, an event's says that an ask is present.
+#[tactic(auto, using(crate::proofs::Bits::bit_1_is))]
 pub fn bit_1(flags: u32) -> bool
     ensures { result ≡ bit 1 flags }
 {
@@ -59,6 +63,7 @@ pub fn reserved_zero(flags: u32) -> bool
 }
 
 // The word rebuilt from its two bits. Where the others are zero it is the word itself.
+#[tactic(auto, using(crate::proofs::Bits::rebuilt_is))]
 pub fn rebuilt(flags: u32) -> u32
     requires { flags < 4 }
     ensures { result ≡ flags }
