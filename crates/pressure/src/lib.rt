@@ -25,6 +25,7 @@ fn near_by(near: Millionths, k: Limits, from: Steps, to: Steps) -> bool
 }
 
 // A price beyond its limit has a negative distance, and is close too.
+#[tactic(auto, unfolding(method::specs::words::Pressure::close))]
 fn close(side: Side, near: Millionths, k: Limits, p: Price) -> bool
     requires { Tested near k p }
     ensures { result ≡ close side near k p }
@@ -54,6 +55,7 @@ fn price(side: Side, b: Book) -> Price
 }
 
 // The watch is tested first: a side that is not watched costs no product.
+#[tactic(auto, using(crate::proofs::Pressing::price_in))]
 fn under_pressure(watched: bool, side: Side, near: Millionths, k: Limits, b: Book) -> bool
     requires { Judgeable near k b }
     ensures { result ≡ under_pressure watched side near k b }
@@ -65,6 +67,7 @@ fn under_pressure(watched: bool, side: Side, near: Millionths, k: Limits, b: Boo
 }
 
 // One side, judged at the second `now` (METHOD 14.2): a hold that stands keeps its start as long as there is pressure.
+#[tactic(auto, unfolding(method::specs::computed::Judge::judged))]
 fn judged(now: Seconds, pressed: bool, h: Hold) -> Hold
     ensures { result ≡ judged now pressed h }
 {
@@ -78,6 +81,7 @@ fn judged(now: Seconds, pressed: bool, h: Hold) -> Hold
 }
 
 // Both holds, over all that they hang on. Where no shift is left no hold exists, and no price is looked at.
+#[tactic(auto, unfolding(method::specs::computed::Judge::judge, method::specs::computed::Judge::judged))]
 pub fn judge(
     w: Watch,
     near: Millionths,
@@ -105,6 +109,7 @@ pub fn judge(
 
 // ---- a line
 
+#[tactic(auto, unfolding(method::specs::words::Pressure::presses))]
 pub fn presses(side: Side, near: Millionths, l: Line) -> bool
     requires { JudgeableLine near l }
     ensures { result ≡ presses side near l }
@@ -114,6 +119,7 @@ pub fn presses(side: Side, near: Millionths, l: Line) -> bool
     under_pressure(wire::bit_1(l.terms.flags), side, near, k, b)
 }
 
+#[tactic(auto, unfolding(method::specs::computed::Judge::judge_line))]
 pub fn judge_line(near: Millionths, left: u32, now: Seconds, l: Line) -> Line
     requires { JudgeableLine near l }
     ensures { result ≡ judge_line near left now l }
