@@ -66,6 +66,7 @@ fn price_of(present: bool, z: Steps) -> Price
 }
 
 // A tick names no contract and has no price.
+#[tactic(auto, unfolding(method::specs::computed::Event::read_tick))]
 fn read_tick(time: Seconds, id: u32, bid: Steps, ask: Steps) -> Event
     ensures { result ≡ read_tick time id bid.0 ask.0 }
 {
@@ -82,6 +83,7 @@ fn read_tick(time: Seconds, id: u32, bid: Steps, ask: Steps) -> Event
 }
 
 // A quote has the flags of one, and the prices that they say are there (refusals 12, 15 and 16).
+#[tactic(auto, unfolding(method::specs::computed::Event::read_quote))]
 fn read_quote(time: Seconds, id: u32, flags: u32, bid: Steps, ask: Steps) -> Event
     ensures { result ≡ read_quote time id flags bid.0 ask.0 }
 {
@@ -111,6 +113,7 @@ fn read_quote(time: Seconds, id: u32, flags: u32, bid: Steps, ask: Steps) -> Eve
 }
 
 // Any bytes of any length: a string that is no event is `Damaged`, with its refusal.
+#[tactic(auto, unfolding(method::specs::computed::Event::read))]
 pub fn read(bytes: &[u8]) -> Event
     ensures { result ≡ read bytes.now }
 {
