@@ -1,7 +1,7 @@
-// What a host in C or Rust calls: a session stays in memory that the host owns, and takes one event after another. Each function here is
-// exported under its own name; include/sundewcup_host.h explains it to a C programmer. The host may have damaged the session in its memory,
-// so each function that reads it, unless its name says unchecked, decides that first, and refuses such memory with a number of its own;
-// everything is then as it was.
+// What a host in C or Rust calls: a session stays in memory that the host owns, and takes one event after another. `host_c` exports each
+// function here under its own name; include/sundewcup_host.h explains it to a C programmer. The host may have damaged the session in its
+// memory, so each function that reads it, unless its name says unchecked, decides that first, and refuses such memory with a number of its
+// own; everything is then as it was.
 
 #![tactic(auto)]
 
@@ -22,22 +22,20 @@ ghost use Rattle.host_session.specs.Answers.{line_said, field_said, reply_in, sh
 ghost use Rattle.host.specs.Checked.{damaged, damaged_count, Tells};
 
 // How many numbers a session takes in memory, for a host that holds its own constant to it.
-#[unsafe(no_mangle)]
-pub extern "C" fn sundewcup_session_numbers() -> usize
+pub fn sundewcup_session_numbers() -> usize
     ensures { result ≡ 1056 }
 {
     host_memory::numbers()
 }
 
 // Opens a session. After a refused table the memory holds none, and every function that checks refuses it as damaged (`tells_after_open`).
-#[unsafe(no_mangle)]
-pub extern "C" fn sundewcup_open(
+pub fn sundewcup_open(
     session: &mut [[[u64; 16]; 2]; 33],
     table: &[u8],
     line: &mut i64,
     field: &mut i64,
 ) -> i64
-    ensures value { result ≡ pos (table_said (opened_session (opening table.now)).answer).number }
+    ensures number { result ≡ pos (table_said (opened_session (opening table.now)).answer).number }
     ensures line_after { line.new ≡ line_said (opened_session (opening table.now)).answer }
     ensures field_after { field.new ≡ field_said (opened_session (opening table.now)).answer }
     ensures session_after { session_in session.new ≡ (opened_session (opening table.now)).session }
@@ -46,8 +44,7 @@ pub extern "C" fn sundewcup_open(
 }
 
 // Whether the memory has a session: 0, or the number of a damaged one.
-#[unsafe(no_mangle)]
-pub extern "C" fn sundewcup_check(session: &[[[u64; 16]; 2]; 33]) -> i64
+pub fn sundewcup_check(session: &[[[u64; 16]; 2]; 33]) -> i64
     ensures { Tells session.now (result ≡ pos 0) (result ≡ damaged) }
 {
     if host_intact::sound(session) {
@@ -56,21 +53,20 @@ pub extern "C" fn sundewcup_check(session: &[[[u64; 16]; 2]; 33]) -> i64
     99
 }
 
-#[unsafe(no_mangle)]
-pub extern "C" fn sundewcup_event(
+pub fn sundewcup_event(
     session: &mut [[[u64; 16]; 2]; 33],
     bytes: &[u8],
     out: &mut [i64; 96],
     made: &mut usize,
 ) -> i64
-    ensures tells { Tells session.old
+    ensures number { Tells session.old
         (result ≡ pos (event_said (reply_in session.old bytes.now).answer).number) (result ≡ damaged) }
-    ensures tells_2 { Tells session.old
+    ensures made_after { Tells session.old
         (made.new ≡ (reply_in session.old bytes.now).made) (made.new ≡ 0) }
-    ensures tells_3 { Tells session.old
+    ensures out_after { Tells session.old
         (out.new ≡ written out.old 0 (shift_rows (reply_in session.old bytes.now)))
         (out.new ≡ out.old) }
-    ensures tells_4 { Tells session.old
+    ensures session_after { Tells session.old
         (Leaves result session.old session.new (reply_in session.old bytes.now).session)
         (session.new ≡ session.old) }
 {
@@ -82,34 +78,28 @@ pub extern "C" fn sundewcup_event(
 }
 
 // One event, with no test of the memory first, for a host that answers for its memory.
-#[unsafe(no_mangle)]
-pub extern "C" fn sundewcup_event_unchecked(
+pub fn sundewcup_event_unchecked(
     session: &mut [[[u64; 16]; 2]; 33],
     bytes: &[u8],
     out: &mut [i64; 96],
     made: &mut usize,
 ) -> i64
     requires { Valid (session_in session.old) }
-    ensures value { result ≡ pos (event_said (reply_in session.old bytes.now).answer).number }
+    ensures number { result ≡ pos (event_said (reply_in session.old bytes.now).answer).number }
     ensures made_after { made.new ≡ (reply_in session.old bytes.now).made }
     ensures out_after { out.new ≡ written out.old 0 (shift_rows (reply_in session.old bytes.now)) }
-    ensures leaves { Leaves result session.old session.new (reply_in session.old bytes.now).session }
+    ensures session_after { Leaves result session.old session.new (reply_in session.old bytes.now).session }
 {
     host_session::event(session, bytes, out, made)
 }
 
-#[unsafe(no_mangle)]
-pub extern "C" fn sundewcup_feed(
-    session: &mut [[[u64; 16]; 2]; 33],
-    events: &[u8],
-    out: &mut [i64],
-) -> usize
-    ensures tells { Tells session.old
+pub fn sundewcup_feed(session: &mut [[[u64; 16]; 2]; 33], events: &[u8], out: &mut [i64]) -> usize
+    ensures count { Tells session.old
         (result ≡ number_in (fed (session_in session.old) (length out.old) events.now).answer) (result ≡ damaged_count) }
-    ensures tells_2 { Tells session.old
+    ensures out_after { Tells session.old
         (out.new ≡ fed_into (session_in session.old) out.old events.now)
         (out.new ≡ out.old) }
-    ensures tells_3 { Tells session.old
+    ensures session_after { Tells session.old
         (session_in session.new ≡ (fed (session_in session.old) (length out.old) events.now).session)
         (session.new ≡ session.old) }
 {
@@ -119,11 +109,10 @@ pub extern "C" fn sundewcup_feed(
     18446744073709551615
 }
 
-#[unsafe(no_mangle)]
-pub extern "C" fn sundewcup_close(session: &[[[u64; 16]; 2]; 33], out: &mut [i64]) -> usize
-    ensures tells { Tells session.now
+pub fn sundewcup_close(session: &[[[u64; 16]; 2]; 33], out: &mut [i64]) -> usize
+    ensures count { Tells session.now
         (result ≡ number_in (closed (session_in session.now) (length out.old))) (result ≡ damaged_count) }
-    ensures tells_2 { Tells session.now
+    ensures out_after { Tells session.now
         (out.new ≡ closed_into (session_in session.now) out.old) (out.new ≡ out.old) }
 {
     if host_intact::sound(session) {
@@ -132,15 +121,10 @@ pub extern "C" fn sundewcup_close(session: &[[[u64; 16]; 2]; 33], out: &mut [i64
     18446744073709551615
 }
 
-#[unsafe(no_mangle)]
-pub extern "C" fn sundewcup_limits(
-    session: &[[[u64; 16]; 2]; 33],
-    id: u32,
-    out: &mut [i64; 3],
-) -> i64
-    ensures tells { Tells session.now
+pub fn sundewcup_limits(session: &[[[u64; 16]; 2]; 33], id: u32, out: &mut [i64; 3]) -> i64
+    ensures number { Tells session.now
         (result ≡ pos (limits_said (limits id (view (session_in session.now)))).number) (result ≡ damaged) }
-    ensures tells_2 { Tells session.now
+    ensures out_after { Tells session.now
         (out.new ≡ told_into out.old (limits_said (limits id (view (session_in session.now)))))
         (out.new ≡ out.old) }
 {
@@ -150,15 +134,10 @@ pub extern "C" fn sundewcup_limits(
     99
 }
 
-#[unsafe(no_mangle)]
-pub extern "C" fn sundewcup_report(
-    session: &[[[u64; 16]; 2]; 33],
-    id: u32,
-    out: &mut [[i64; 6]; 4],
-) -> i64
-    ensures tells { Tells session.now
+pub fn sundewcup_report(session: &[[[u64; 16]; 2]; 33], id: u32, out: &mut [[i64; 6]; 4]) -> i64
+    ensures number { Tells session.now
         (result ≡ pos (report_said (report id (view (session_in session.now)))).number) (result ≡ damaged) }
-    ensures tells_2 { Tells session.now
+    ensures out_after { Tells session.now
         (out.new ≡ report_into out.old (report id (view (session_in session.now))))
         (out.new ≡ out.old) }
 {
@@ -168,8 +147,7 @@ pub extern "C" fn sundewcup_report(
     99
 }
 
-#[unsafe(no_mangle)]
-pub extern "C" fn sundewcup_place(session: &[[[u64; 16]; 2]; 33], id: u32, price: i64) -> i64
+pub fn sundewcup_place(session: &[[[u64; 16]; 2]; 33], id: u32, price: i64) -> i64
     ensures { Tells session.now
         (result ≡ place_number (place id (steps price) (view (session_in session.now)))) (result ≡ damaged) }
 {
@@ -180,12 +158,7 @@ pub extern "C" fn sundewcup_place(session: &[[[u64; 16]; 2]; 33], id: u32, price
 }
 
 // The place of an order price, with no test of the memory first.
-#[unsafe(no_mangle)]
-pub extern "C" fn sundewcup_place_unchecked(
-    session: &[[[u64; 16]; 2]; 33],
-    id: u32,
-    price: i64,
-) -> i64
+pub fn sundewcup_place_unchecked(session: &[[[u64; 16]; 2]; 33], id: u32, price: i64) -> i64
     requires { Valid (session_in session.now) }
     ensures { result ≡ place_number (place id (steps price) (view (session_in session.now))) }
 {

@@ -1,4 +1,5 @@
-// A whole session in one call, from a table and its events to the rows that they give; and the same for C.
+// A whole session in one call, from a table and its events to the rows that they give; and the same in numbers alone, which `sundewcup_c`
+// exports for C.
 
 #![tactic(auto)]
 
@@ -42,8 +43,7 @@ pub fn run(table: &[u8], events: &[u8], out: &mut [i64]) -> RowsAnswer
 
 // `run` for C. The answer is how many numbers were written; where `out` is too short it is how many it would have to take, which is more
 // than `out` has, and nothing is written.
-#[unsafe(no_mangle)]
-pub extern "C" fn sundewcup_run(table: &[u8], events: &[u8], out: &mut [i64]) -> usize
+pub fn sundewcup_run(table: &[u8], events: &[u8], out: &mut [i64]) -> usize
     ensures value { result ≡ number_in (ran (length out.old) table.now events.now) }
     ensures out_after { out.new ≡ ran_into out.old table.now events.now }
 {
