@@ -3,14 +3,13 @@ use mathlib.Core.Path.{◌≡◌, ap, ◌∙◌}
 use Prim.Native.Nat.{ℕ, ◌+◌, ◌*◌, ◌/◌, ◌%◌, ◌<◌, ◌^◌}
 use native.Mathlib.Omega.{arith}
 use borrow.Author.Tests.{eq-eqb, ne_eqb}
-use lib.Dec.{T}
 use lib.IntN.{ℤ, pos, negsuc, nat_abs, ◌-ℤ◌}
-use lib.Signed.{◌≤ℤ◌, ◌<ℤ◌, non_neg}
+use lib.Signed.{◌≤ℤ◌, ◌<ℤ◌}
 use mir.Syntax.{w64}
-use mir.Val.{SFits, Fits, to_z, of_z}
+use mir.Val.{SFits, to_z, of_z}
 use mir.Facts.{to_z-of_z}
 use Rattle.numbers.proofs.Halves.{zarith, sub_is}
-use Rattle.numbers.proofs.Machine.{cast_back, to_u64}
+use Rattle.numbers.proofs.Machine.{cast_back}
 use Rattle.numbers.proofs.Rounded.{less_fits}
 use Rattle.host_row.specs.Packed.{signed_in}
 
@@ -25,7 +24,7 @@ even_read n h e = rw (eq-eqb (n % 2) 0 e) (cast_back {n = n / 2} (omega arith))
 half_fits : (n : ℕ) → n < 2 ^ 64 → SFits w64 (to_z w64 (n / 2))
 half_fits n h = rw (cast_back {n = n / 2} (omega arith)) (record { sfits = omega arith })
 
-pub odd_fits : (n : ℕ) → n < 2 ^ 64 → SFits w64 (negsuc 0 -ℤ to_z w64 (n / 2))
+odd_fits : (n : ℕ) → n < 2 ^ 64 → SFits w64 (negsuc 0 -ℤ to_z w64 (n / 2))
 odd_fits n h = less_fits (half_fits n h)
 
 pub odd_read : (n : ℕ) → n < 2 ^ 64 → (n % 2 ≡ 0 → ⊥) → to_z w64 (of_z w64 (negsuc 0 -ℤ to_z w64 (n / 2))) ≡ signed_in n
@@ -48,13 +47,6 @@ turned : (n : ℕ) → negsuc 0 -ℤ negsuc n ≡ pos n
 turned n = omega (zarith, sub_is (negsuc 0) (negsuc n))
 
 -- a negative one, as the machine turns it
-below_order : (z : ℤ) → z <ℤ pos 0 → pos 0 ≤ℤ (negsuc 0 -ℤ z)
-below_order z h = omega (zarith, sub_is (negsuc 0) z)
-
-below-small : (z : ℤ) → SFits w64 z → z <ℤ pos 0 → nat_abs (negsuc 0 -ℤ z) < 2 ^ 63
-below-small (pos n) f h = omega (zarith, f.sfits)
-below-small (negsuc n) f h = rw (turned n) f.sfits
-
 below-read : (z : ℤ) → z <ℤ pos 0 → signed_in (2 * nat_abs (negsuc 0 -ℤ z) + 1) ≡ z
 below-read (pos n) h = absurd (never h)
   where
@@ -69,29 +61,10 @@ module _ (z : ℤ) (f : SFits w64 z) (h : z <ℤ pos 0) where
   turned_is : turned_bits ≡ negsuc 0 -ℤ z
   turned_is = ap (λ (x : ℤ). to_z w64 (of_z w64 (negsuc 0 -ℤ x))) (to_z-of_z f) ∙ to_z-of_z (less_fits f)
 
-  pub below_cast : T (non_neg turned_bits) × Fits w64 (nat_abs turned_bits)
-  below_cast = rw (to_z-of_z f) (to_u64 (less_fits f) (below_order z h))
-
-  pub below_twice : 2 * nat_abs turned_bits < 2 ^ 64
-  below_twice = rw turned_is (double (nat_abs (negsuc 0 -ℤ z)) (below-small z f h))
-    where
-      double : (n : ℕ) → n < 2 ^ 63 → 2 * n < 2 ^ 64
-      double n g = omega arith
-
-  pub below_more : 2 * nat_abs turned_bits + 1 < 2 ^ 64
-  below_more = rw turned_is (double (nat_abs (negsuc 0 -ℤ z)) (below-small z f h))
-    where
-      double : (n : ℕ) → n < 2 ^ 63 → 2 * n + 1 < 2 ^ 64
-      double n g = omega arith
-
   pub below_back : signed_in (2 * nat_abs turned_bits + 1) ≡ z
   below_back = rw turned_is (below-read z h)
 
 -- one that is not
-above-small : (z : ℤ) → SFits w64 z → pos 0 ≤ℤ z → nat_abs z < 2 ^ 63
-above-small (pos n) f h = f.sfits
-above-small (negsuc n) f h = omega zarith
-
 above-read : (z : ℤ) → pos 0 ≤ℤ z → signed_in (2 * nat_abs z) ≡ z
 above-read (pos n) h = twice n
 above-read (negsuc n) h = absurd (never h)
@@ -100,11 +73,5 @@ above-read (negsuc n) h = absurd (never h)
     never h = omega zarith
 
 module _ (z : ℤ) (f : SFits w64 z) (h : pos 0 ≤ℤ z) where
-  pub above_twice : 2 * nat_abs (to_z w64 (of_z w64 z)) < 2 ^ 64
-  above_twice = rw (to_z-of_z f) (double (nat_abs z) (above-small z f h))
-    where
-      double : (n : ℕ) → n < 2 ^ 63 → 2 * n < 2 ^ 64
-      double n g = omega arith
-
   pub above_back : signed_in (2 * nat_abs (to_z w64 (of_z w64 z))) ≡ z
   above_back = rw (to_z-of_z f) (above-read z h)

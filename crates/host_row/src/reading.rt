@@ -14,12 +14,14 @@ fn word(n: u64) -> u32
     (n % 4294967296) as u32
 }
 
+#[tactic(auto, unfolding(crate::specs::Packed::mark_in))]
 fn mark(n: u64) -> bool
     ensures { result ≡ mark_in n }
 {
     0 < n
 }
 
+#[tactic(auto, using(crate::proofs::Numbers::even_read, crate::proofs::Numbers::odd_read))]
 fn signed(n: u64) -> Steps
     ensures { result ≡ steps (signed_in n) }
 {
@@ -30,6 +32,7 @@ fn signed(n: u64) -> Steps
     Steps(-1 - half)
 }
 
+#[tactic(auto, unfolding(crate::specs::Packed::price_in, crate::specs::Packed::mark_in))]
 fn price(there: u64, n: u64) -> Price
     ensures { result ≡ price_in there n }
 {
@@ -41,6 +44,7 @@ fn price(there: u64, n: u64) -> Price
     Price::Absent
 }
 
+#[tactic(auto, unfolding(crate::specs::Packed::hold_in, crate::specs::Packed::mark_in))]
 fn hold(there: u64, n: u64) -> Hold
     ensures { result ≡ hold_in there n }
 {
@@ -54,12 +58,14 @@ fn hold(there: u64, n: u64) -> Hold
 // ---- what bounds are drawn from, in a line's first row
 
 // The id alone, for a walk over lines that has no use for the rest.
+#[tactic(auto, unfolding(crate::specs::Packed::terms_in))]
 pub fn id(row: &[u64; 16]) -> u32
     ensures { result ≡ (terms_in row.now).id }
 {
     word(row[0])
 }
 
+#[tactic(auto, unfolding(crate::specs::Packed::terms_in))]
 fn terms(row: &[u64; 16]) -> Terms
     ensures { result ≡ terms_in row.now }
 {
@@ -74,6 +80,7 @@ fn terms(row: &[u64; 16]) -> Terms
     }
 }
 
+#[tactic(auto, unfolding(crate::specs::Packed::market_in))]
 fn market(row: &[u64; 16]) -> Market
     ensures { result ≡ market_in row.now }
 {
@@ -87,6 +94,7 @@ fn market(row: &[u64; 16]) -> Market
 
 // ---- what pressure is judged on, in its second row
 
+#[tactic(auto, unfolding(crate::specs::Packed::limits_in))]
 fn limits(row: &[u64; 16]) -> Limits
     ensures { result ≡ limits_in row.now }
 {
@@ -97,6 +105,7 @@ fn limits(row: &[u64; 16]) -> Limits
     }
 }
 
+#[tactic(auto, unfolding(crate::specs::Packed::book_in))]
 fn book(row: &[u64; 16]) -> Book
     ensures { result ≡ book_in row.now }
 {
@@ -106,6 +115,7 @@ fn book(row: &[u64; 16]) -> Book
     }
 }
 
+#[tactic(auto, unfolding(crate::specs::Packed::holds_in))]
 pub fn holds(row: &[u64; 16]) -> Holds
     ensures { result ≡ holds_in row.now }
 {
@@ -116,6 +126,7 @@ pub fn holds(row: &[u64; 16]) -> Holds
 }
 
 // The line that two rows have.
+#[tactic(auto, unfolding(crate::specs::Packed::line_in))]
 pub fn line(pair: &[[u64; 16]; 2]) -> Line
     ensures { result ≡ line_in pair.now }
 {
@@ -129,6 +140,7 @@ pub fn line(pair: &[[u64; 16]; 2]) -> Line
 }
 
 // The head that a row has.
+#[tactic(auto, unfolding(crate::specs::Packed::head_in))]
 pub fn head(row: &[u64; 16]) -> Head
     ensures { result ≡ head_in row.now }
 {

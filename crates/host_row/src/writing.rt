@@ -13,6 +13,7 @@ fn word_number(n: u32) -> u64
     n as u64
 }
 
+#[tactic(auto, unfolding(crate::specs::Packed::mark_in))]
 fn mark_number(b: bool) -> u64
     ensures { mark_in result ≡ b }
 {
@@ -36,6 +37,7 @@ pub struct Two {
     pub number: u64,
 }
 
+#[tactic(auto, unfolding(crate::specs::Packed::price_in, crate::specs::Packed::mark_in))]
 fn price_numbers(p: Price) -> Two
     ensures { price_in result.there result.number ≡ p }
 {
@@ -51,6 +53,7 @@ fn price_numbers(p: Price) -> Two
     }
 }
 
+#[tactic(auto, unfolding(crate::specs::Packed::hold_in, crate::specs::Packed::mark_in))]
 fn hold_numbers(h: Hold) -> Two
     ensures { hold_in result.there result.number ≡ h }
 {
@@ -67,6 +70,7 @@ fn hold_numbers(h: Hold) -> Two
 }
 
 // A line's first row: what its bounds are drawn from.
+#[tactic(auto, unfolding(crate::specs::Packed::terms_in, crate::specs::Packed::market_in))]
 fn drawn_row(terms: Terms, market: Market) -> [u64; 16]
     ensures { (terms_in result ≡ terms) × (market_in result ≡ market) }
 {
@@ -91,6 +95,7 @@ fn drawn_row(terms: Terms, market: Market) -> [u64; 16]
 }
 
 // Its second row: what pressure is judged on.
+#[tactic(auto, unfolding(crate::specs::Packed::limits_in, crate::specs::Packed::book_in, crate::specs::Packed::holds_in))]
 pub fn judged_row(limits: Limits, book: Book, holds: Holds) -> [u64; 16]
     ensures { (limits_in result ≡ limits) × (book_in result ≡ book) × (holds_in result ≡ holds) }
 {
@@ -123,6 +128,7 @@ pub fn judged_row(limits: Limits, book: Book, holds: Holds) -> [u64; 16]
 }
 
 // Two rows that have the line.
+#[tactic(auto, unfolding(crate::specs::Packed::line_in))]
 pub fn rows(l: Line) -> [[u64; 16]; 2]
     ensures { line_in result ≡ l }
 {
@@ -133,6 +139,7 @@ pub fn rows(l: Line) -> [[u64; 16]; 2]
 }
 
 // A row that has the head.
+#[tactic(auto, unfolding(crate::specs::Packed::head_in))]
 pub fn head_row(h: Head) -> [u64; 16]
     ensures { head_in result ≡ h }
 {
