@@ -33,21 +33,21 @@ module _ (id : ℕ) (ids : List ℕ) where
   without_end i e = rw (past_end ids i e) tt
 
 -- ---- all ids
-distinct-drop : (i : ℕ) (ids : List ℕ) → Distinct ids → Distinct (drop i ids)
+distinct_drop : (i : ℕ) (ids : List ℕ) → Distinct ids → Distinct (drop i ids)
 unfolding Distinct
-distinct-drop zero ids d = d
-distinct-drop (suc i) [] d = d
-distinct-drop (suc i) (j ∷ ids) d = distinct-drop i ids d.1
+distinct_drop zero ids d = d
+distinct_drop (suc i) [] d = d
+distinct_drop (suc i) (j ∷ ids) d = distinct_drop i ids d.1
 
 module _ (ids : List ℕ) (i : ℕ) (h : i < length ids) where
-  pub distinct-at : Distinct ids → Without (get_or ids i 0) (drop (i + 1) ids)
+  pub distinct_at : Distinct ids → Without (get_or ids i 0) (drop (i + 1) ids)
   unfolding Distinct
-  distinct-at d = let e = rw (drop-cons ids i 0 h) at (distinct-drop i ids d) in rw add-one e.0
+  distinct_at d = let e = rw (drop-cons ids i 0 h) at (distinct_drop i ids d) in rw add-one e.0
 
   pub distinct_more : Without (get_or ids i 0) (drop (i + 1) ids) → Distinct (drop (i + 1) ids) → Distinct (drop i ids)
   unfolding Distinct
   distinct_more w d = rw (drop-cons ids i 0 h) (rw add-one at w, rw add-one at d)
 
-pub distinct-end : (ids : List ℕ) (i : ℕ) → i ≡ length ids → Distinct (drop i ids)
+pub distinct_end : (ids : List ℕ) (i : ℕ) → i ≡ length ids → Distinct (drop i ids)
 unfolding Distinct
-distinct-end ids i e = rw (past_end ids i e) tt
+distinct_end ids i e = rw (past_end ids i e) tt

@@ -14,6 +14,7 @@ use numbers::{Millionths, Seconds};
 const MOST_LINES: usize = method::MOST_CONTRACTS as usize;
 
 // Whether an id stands at no place from `from` on.
+#[tactic(auto, using(crate::proofs::Ids::without_at, crate::proofs::Ids::without_more, crate::proofs::Ids::without_end))]
 fn absent(ids: &[u32], from: usize, id: u32) -> bool
     requires { from ≤ length ids.now }
     ensures { Decides result (Without id (drop from ids.now)) }
@@ -30,6 +31,7 @@ fn absent(ids: &[u32], from: usize, id: u32) -> bool
 }
 
 // Whether no id stands twice.
+#[tactic(auto, using(crate::proofs::Ids::distinct_at, crate::proofs::Ids::distinct_more, crate::proofs::Ids::distinct_end))]
 pub fn distinct(ids: &[u32]) -> bool
     ensures { Decides result (Distinct ids.now) }
 {
