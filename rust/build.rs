@@ -1,4 +1,4 @@
-//! Links the proved engine. `SUNDEWCUP_LIBRARY` names the folder of libhost.a; else it is where `rt staticlib host` writes it.
+//! Links the proved engine. `SUNDEWCUP_LIBRARY` names the folder of libhost.a; else it is where `./library host` writes it.
 use std::env;
 use std::path::PathBuf;
 
