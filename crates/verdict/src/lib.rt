@@ -37,6 +37,7 @@ pub enum Verdict {
 }
 
 // A bid above the ask crosses; where one of them is absent nothing does.
+#[tactic(auto, unfolding(method::specs::computed::Event::not_crossed))]
 fn not_crossed(bid: Price, ask: Price) -> bool
     ensures { result ≡ not_crossed bid ask }
 {
@@ -62,6 +63,7 @@ pub fn slot(e: Event) -> usize
 
 // How many ids stand before this one, or how many there are where it is none of them. A guess that is right spares the search, and one
 // that is wrong costs nothing but time.
+#[tactic(auto, using(crate::proofs::Finding::passed_turn, crate::proofs::Finding::passed_found, crate::proofs::Finding::passed_all, crate::proofs::Finding::guessed))]
 fn place_of(ids: &[u32], guess: u8, id: u32) -> usize
     requires { Distinct ids.now }
     ensures { result ≡ place_of id ids.now }
@@ -87,6 +89,7 @@ fn place_of(ids: &[u32], guess: u8, id: u32) -> usize
 }
 
 // Refusals 10 and 11; what comes after them is handed over.
+#[tactic(auto, unfolding(method::specs::computed::Event::in_session))]
 fn in_session(end: Seconds, clock: Seconds, t: Seconds, onward: EventAnswer) -> EventAnswer
     ensures { result ≡ in_session end clock t onward }
 {
@@ -100,6 +103,7 @@ fn in_session(end: Seconds, clock: Seconds, t: Seconds, onward: EventAnswer) -> 
 }
 
 // Refusals 13 and 14, from the place of the quote's id.
+#[tactic(auto, using(crate::proofs::Finding::found_none), unfolding(method::specs::computed::Event::quote_answer))]
 fn quote_answer(ids: &[u32], place: usize, q: Quote) -> EventAnswer
     requires { place ≡ place_of q.id ids.now }
     ensures { result ≡ quote_answer ids.now q }
@@ -125,6 +129,7 @@ fn verdict_of(answer: EventAnswer, taken: Taken) -> Verdict
 }
 
 // What becomes of an event in a session of these ids, this end and this clock; with a guess at the place of a quote's line.
+#[tactic(auto, unfolding(method::specs::computed::Event::screened))]
 pub fn screen(ids: &[u32], guess: u8, end: Seconds, clock: Seconds, e: Event) -> Verdict
     requires { Distinct ids.now }
     ensures { result ≡ decided ids.now end clock e }
