@@ -29,6 +29,7 @@ pub struct HoldNumbers {
     pub due: i64,
 }
 
+#[tactic(auto, unfolding(crate::specs::ReportRows::hold_told))]
 fn hold_numbers(h: HoldReport) -> HoldNumbers
     ensures { result ≡ hold_told h }
 {
@@ -53,6 +54,7 @@ pub struct PriceNumbers {
     pub price: i64,
 }
 
+#[tactic(auto, unfolding(crate::specs::ReportRows::price_told))]
 fn price_numbers(p: Price) -> PriceNumbers
     ensures { result ≡ price_told p }
 {
@@ -66,6 +68,7 @@ fn price_numbers(p: Price) -> PriceNumbers
 }
 
 // The limits, the interest bounds and the centre.
+#[tactic(auto, unfolding(crate::specs::ReportRows::limit_row))]
 fn limit_row(limits: Limits, interest: BothBounds, centre: Steps) -> [i64; 6]
     ensures { result ≡ limit_row limits interest centre }
 {
@@ -80,6 +83,7 @@ fn limit_row(limits: Limits, interest: BothBounds, centre: Steps) -> [i64; 6]
 }
 
 // The market bounds.
+#[tactic(auto, unfolding(crate::specs::ReportRows::market_row))]
 fn market_row(level1: BothBounds, level2: BothBounds, level3: BothBounds) -> [i64; 6]
     ensures { result ≡ market_row level1 level2 level3 }
 {
@@ -93,6 +97,7 @@ fn market_row(level1: BothBounds, level2: BothBounds, level3: BothBounds) -> [i6
     ]
 }
 
+#[tactic(auto, unfolding(crate::specs::ReportRows::hold_row))]
 fn hold_row(up: HoldReport, down: HoldReport) -> [i64; 6]
     ensures { result ≡ hold_row up down }
 {
@@ -102,6 +107,7 @@ fn hold_row(up: HoldReport, down: HoldReport) -> [i64; 6]
 }
 
 // The bid, the ask, the shifts left and the clock.
+#[tactic(auto, unfolding(crate::specs::ReportRows::book_row))]
 fn book_row(bid: PriceNumbers, ask: PriceNumbers, left: u32, clock: Seconds) -> [i64; 6]
     ensures { result ≡ book_row bid ask left clock }
 {
@@ -115,6 +121,7 @@ fn book_row(bid: PriceNumbers, ask: PriceNumbers, left: u32, clock: Seconds) -> 
     ]
 }
 
+#[tactic(auto, unfolding(crate::specs::ReportRows::report_rows))]
 pub fn report_rows(r: Report) -> [[i64; 6]; 4]
     ensures { result ≡ report_rows r }
 {
