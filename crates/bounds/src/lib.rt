@@ -26,6 +26,7 @@ pub fn market_bound(side: Side, centre: Steps, half: Steps) -> Steps
 }
 
 // The factor of a market bound, by its own sign: of the upper one up from 0 on and down below, of the lower one the other way round.
+#[tactic(auto, unfolding(method::specs::words::Bounds::factor))]
 fn factor(side: Side, f: Factors, z: Steps) -> Billionths
     ensures { result.0 ≡ factor side f z.0 }
 {
@@ -46,6 +47,7 @@ fn factor(side: Side, f: Factors, z: Steps) -> Billionths
 }
 
 // A market bound by its factor, rounded outward.
+#[tactic(auto, unfolding(method::specs::words::Bounds::interest))]
 fn interest(side: Side, k: Billionths, z: Steps) -> Steps
     requires { (k.0 ≤ largest_factor) × Within largest_market_bound z.0 }
     ensures { result.0 ≡ interest side k.0 z.0 }

@@ -7,6 +7,7 @@ use method::Limits;
 use numbers::Steps;
 
 // Where negative prices are not permitted, a lower limit below 1 becomes 1 and is frozen.
+#[tactic(auto, unfolding(method::specs::words::Opening::floored))]
 pub fn floored(permitted: bool, k: Limits) -> Limits
     ensures { result ≡ floored permitted k }
 {
