@@ -9,7 +9,6 @@ use lib.IntN.{ℤ}
 use lib.ListN.{length, get_or, set, take, drop, length-append, length-drop, length-map}
 use lib.Seq.{paste, paste-zero, paste-suc, take-suc, take-length, length-take-le, take_at, drop_at, drop-drop}
 use Rattle.method.specs.declared.Row.{Row}
-use Rattle.method.specs.declared.Row.TheVariants as Row
 use Rattle.method.specs.told.Rows.{row_numbers, numbers_of}
 use Rattle.rows.specs.Buffer.{written}
 

@@ -1,7 +1,6 @@
 -- Which rows have numbers of 64 bits.
 use Rattle.std.specs.Prelude.{ℕ, ◌≤◌}
 use Rattle.method.specs.declared.Row.{Row}
-use Rattle.method.specs.declared.Row.TheVariants as Row
 
 -- the largest that a number of 64 bits with a sign may be
 abbrev pub largest_number : ℕ

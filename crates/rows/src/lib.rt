@@ -41,6 +41,7 @@ fn side_number(side: Side) -> i64
     }
 }
 
+#[tactic(auto, unfolding(method::specs::told::Refusals::event_number))]
 pub fn event_number(why: EventReason) -> i64
     ensures { result ≡ pos (event_number why) }
 {
@@ -55,6 +56,7 @@ pub fn event_number(why: EventReason) -> i64
     }
 }
 
+#[tactic(auto, unfolding(method::specs::told::Refusals::table_number))]
 fn table_number(why: TableReason) -> i64
     ensures { result ≡ pos (table_number why) }
 {
@@ -72,6 +74,7 @@ fn table_number(why: TableReason) -> i64
 }
 
 // The place of a field in the contract's line.
+#[tactic(auto, unfolding(method::specs::told::Refusals::field_place))]
 fn field_place(f: Field) -> i64
     ensures { result ≡ pos (field_place f) }
 {
@@ -89,6 +92,7 @@ fn field_place(f: Field) -> i64
 }
 
 // That of the field at fault, and 0 where no field is named.
+#[tactic(auto, unfolding(method::specs::told::Refusals::field_number))]
 fn field_number(why: TableReason) -> i64
     ensures { result ≡ pos (field_number why) }
 {
@@ -107,6 +111,7 @@ fn field_number(why: TableReason) -> i64
 
 // ---- the rows, by their kinds
 
+#[tactic(auto, unfolding(method::specs::told::Rows::row_numbers))]
 fn shift(c: ShiftLine) -> [i64; 6]
     ensures { result ≡ row_numbers (RowOf.Shift c) }
 {
@@ -114,6 +119,7 @@ fn shift(c: ShiftLine) -> [i64; 6]
     [1, wide(c.second.0), side_number(side), wide(c.id), 0, 0]
 }
 
+#[tactic(auto, unfolding(method::specs::told::Rows::row_numbers))]
 fn refused_event(why: EventReason, place: usize) -> [i64; 6]
     requires { place ≤ largest_number }
     ensures { result ≡ row_numbers (RowOf.RefusedEvent why place) }
@@ -121,12 +127,14 @@ fn refused_event(why: EventReason, place: usize) -> [i64; 6]
     [2, event_number(why), wide_place(place), 0, 0, 0]
 }
 
+#[tactic(auto, unfolding(method::specs::told::Rows::row_numbers))]
 fn refused_table(why: TableReason, line: u32) -> [i64; 6]
     ensures { result ≡ row_numbers (RowOf.RefusedTable why line) }
 {
     [3, table_number(why), wide(line), field_number(why), 0, 0]
 }
 
+#[tactic(auto, unfolding(method::specs::told::Rows::row_numbers))]
 fn closed(c: Closing) -> [i64; 6]
     ensures { result ≡ row_numbers (RowOf.Closed c) }
 {
@@ -153,6 +161,7 @@ pub fn row_numbers(row: Row) -> [i64; 6]
     }
 }
 
+#[tactic(auto, using(crate::proofs::Buffer::all_copied))]
 fn copied(out: &mut [i64], at: usize, numbers: [i64; 6])
     requires { at + 6 ≤ length out.old }
     ensures { out.new ≡ written out.old at numbers }
