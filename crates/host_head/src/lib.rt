@@ -14,7 +14,7 @@ use numbers::{Millionths, Seconds};
 const MOST_LINES: usize = method::MOST_CONTRACTS as usize;
 
 // Whether an id stands at no place from `from` on.
-#[tactic(auto, using(crate::proofs::Ids::without_at, crate::proofs::Ids::without_more, crate::proofs::Ids::without_end))]
+#[tactic(auto, using(crate::proofs::Ids::without_at, crate::proofs::Ids::without_end))]
 fn absent(ids: &[u32], from: usize, id: u32) -> bool
     requires { from ≤ length ids.now }
     ensures { Decides result (Without id (drop from ids.now)) }
