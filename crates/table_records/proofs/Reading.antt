@@ -1,15 +1,14 @@
--- The loop that reads a table's keys: what holds at its head. And a contract, field by field. Assumes nothing.
+-- The loop that reads a table's keys: what holds at its head. Assumes nothing.
 use mathlib.Core.Path.{◌≡◌, refl, sym, ap, ◌∙◌}
 use mathlib.Core.List.{List, [], ◌∷◌, ◌++◌}
 use Prim.Native.Nat.{ℕ, zero, suc, ◌+◌, ◌*◌, ◌<◌}
 use native.Mathlib.Numerals.{add-one}
 use native.Mathlib.Omega.{arith}
-use lib.IntN.{ℤ}
 use lib.ListN.{length, set}
 use Rattle.numbers.specs.Arrays.{padded}
 use Rattle.numbers.proofs.Arrays.{padded-set}
 use Rattle.method.specs.words.Layout.{key_at, keys_at}
-use Rattle.table_records.specs.Names.{Key, Contract}
+use Rattle.table_records.specs.Names.{Key}
 use Rattle.method.specs.computed.Types.{no_key}
 
 -- ---- the keys are read one after another
@@ -33,25 +32,3 @@ keys-read b i keys k e h q =
     (ap (λ (j : ℕ). set (padded 16 no_key (keys_at b 40 i)) j (key_at b (40 + 8 * i))) (sym size)
     ∙ padded-set 16 no_key (keys_at b 40 i) (key_at b (40 + 8 * i)) (omega arith)
     ∙ ap (padded 16 no_key) (keys-last b 40 i))
-
--- ---- a contract, field by field
-abbrev fields : ℤ → ℤ → ℤ → ℕ → ℕ → ℕ → ℕ → ℕ → ℕ → ℕ → Contract
-fields price spot least rate1 rate2 rate3 width days id flags =
-    record {
-      price = record { 0 = price };
-      spot = record { 0 = spot };
-      least = record { 0 = least };
-      rate1 = record { 0 = rate1 };
-      rate2 = record { 0 = rate2 };
-      rate3 = record { 0 = rate3 };
-      width = record { 0 = width };
-      days = days;
-      id = id;
-      flags = flags;
-    }
-
-module _ {price price' spot spot' least least' : ℤ} {rate1 rate1' rate2 rate2' rate3 rate3' width width' days days' id id' flags flags' : ℕ} where
-  pub contract-is : price ≡ price' → spot ≡ spot' → least ≡ least' → rate1 ≡ rate1' → rate2 ≡ rate2' → rate3 ≡ rate3' → width ≡ width' → days ≡ days'
-      → id ≡ id' → flags ≡ flags'
-      → ◌≡◌ {A = Contract} (fields price spot least rate1 rate2 rate3 width days id flags) (fields price' spot' least' rate1' rate2' rate3' width' days' id' flags')
-  contract-is a b c d e f g h i j = λ k. fields (a k) (b k) (c k) (d k) (e k) (f k) (g k) (h k) (i k) (j k)

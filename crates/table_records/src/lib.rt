@@ -13,6 +13,7 @@ use numbers::{Millionths, Seconds, Steps};
 
 // ---- the three kinds of record
 
+#[tactic(auto, unfolding(method::specs::words::Layout::header_of))]
 pub fn header(bytes: &[u8]) -> Header
     requires { 40 ≤ length bytes.now }
     ensures { result ≡ header_of bytes.now }
@@ -31,6 +32,7 @@ pub fn header(bytes: &[u8]) -> Header
     }
 }
 
+#[tactic(auto, unfolding(method::specs::words::Layout::key_at))]
 fn key(bytes: &[u8], at: usize) -> Key
     requires { at + 8 ≤ length bytes.now }
     ensures { result ≡ key_at bytes.now at }
@@ -41,6 +43,7 @@ fn key(bytes: &[u8], at: usize) -> Key
     }
 }
 
+#[tactic(auto, unfolding(method::specs::words::Layout::contract_at))]
 pub fn contract(bytes: &[u8], at: usize) -> Contract
     requires { at + 40 ≤ length bytes.now }
     ensures { result ≡ contract_at bytes.now at }
