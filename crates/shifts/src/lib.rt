@@ -15,6 +15,7 @@ use method::{Book, Hold, Holds, Limits, Line, Market, Quote, Side, Terms};
 use numbers::{Millionths, Seconds, Steps};
 
 // z moved by a half-move.
+#[tactic(auto, using(crate::proofs::Moving::moves))]
 fn toward(side: Side, by: Steps, z: Steps) -> Steps
     requires { Within largest_half_move by.0 × Within (reach 1) z.0 }
     ensures { result ≡ toward side by z }
@@ -26,6 +27,7 @@ fn toward(side: Side, by: Steps, z: Steps) -> Steps
 }
 
 // The centre goes toward the side; the half-widths grow on either.
+#[tactic(auto, unfolding(method::specs::computed::Shift::moved))]
 fn moved(side: Side, by: Steps, m: Market) -> Market
     requires { Movable by.0 m }
     ensures { result ≡ moved side by m }
@@ -61,6 +63,7 @@ fn lowered(k: Limits, from: Steps, to: Steps) -> Limits
 }
 
 // The limits as the market goes from m to n. The shifted side's limit moves by its bound's growth, not by the half-move.
+#[tactic(auto, unfolding(method::specs::computed::Shift::redrawn))]
 fn redrawn(side: Side, t: Terms, m: Market, n: Market, k: Limits) -> Limits
     requires { Redrawable t m n k }
     ensures { result ≡ redrawn side t m n k }
@@ -91,6 +94,7 @@ fn ended(side: Side, h: Holds) -> Holds
 }
 
 // A line shifted, before its pressure is judged anew.
+#[tactic(auto, unfolding(method::specs::computed::Shift::moved_line))]
 fn moved_line(side: Side, l: Line) -> Line
     requires { Shiftable l }
     ensures { result ≡ moved_line side l }
@@ -111,6 +115,7 @@ fn moved_line(side: Side, l: Line) -> Line
 }
 
 // A line after a shift that leaves `left`.
+#[tactic(auto, unfolding(method::specs::computed::Shift::shift_line))]
 pub fn shift_line(near: Millionths, left: u32, side: Side, now: Seconds, l: Line) -> Line
     requires { Shifts near left l }
     ensures { result ≡ shift_line near left side now l }
@@ -119,6 +124,7 @@ pub fn shift_line(near: Millionths, left: u32, side: Side, now: Seconds, l: Line
 }
 
 // A line after its quote: both standing prices replaced, and its pressure judged anew.
+#[tactic(auto, unfolding(method::specs::computed::Event::quoted_line))]
 pub fn quoted_line(near: Millionths, left: u32, q: Quote, l: Line) -> Line
     requires { JudgeableLine near (with_book l q.bid q.ask) }
     ensures { result ≡ quoted_line near left q l }
