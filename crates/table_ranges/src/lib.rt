@@ -17,6 +17,7 @@ use numbers::{Millionths, Steps};
 // ---- the header
 
 // A count, a time or a share out of range (refusal 3).
+#[tactic(auto, unfolding(method::specs::computed::Table::header_good))]
 pub fn header_good(h: Header) -> bool
     ensures { result ≡ header_good h }
 {
@@ -49,6 +50,7 @@ pub fn table_length(h: Header) -> usize
 }
 
 // Offsets and length as the counts say (the rest of refusal 1).
+#[tactic(auto, unfolding(method::specs::computed::Table::laid_out))]
 pub fn laid_out(h: Header, size: usize) -> bool
     ensures { result ≡ laid_out h size }
 {
@@ -64,6 +66,7 @@ pub fn laid_out(h: Header, size: usize) -> bool
 // ---- the keys
 
 // A key in its range, and after the one before it (refusal 4).
+#[tactic(auto, unfolding(method::specs::computed::Table::key_good))]
 fn key_good(before: u32, k: Key) -> bool
     ensures { result ≡ key_good before k }
 {
@@ -125,6 +128,7 @@ fn rate_good(before: Millionths, rate: Millionths) -> bool
     before.0 <= rate.0
 }
 
+#[tactic(auto, unfolding(method::specs::computed::Opening::field_good))]
 fn field_good(f: Field, c: Contract) -> bool
     ensures { result ≡ field_good f c }
 {
