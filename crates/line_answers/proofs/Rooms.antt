@@ -1,9 +1,9 @@
--- What a line's numbers allow: its bounds to be drawn, its holds to be told. Assumes nothing.
+-- What a line's numbers allow: its bounds to be drawn. Assumes nothing.
 use Prim.Native.Nat.{ℕ}
 use native.Mathlib.Omega.{arith}
 use Rattle.numbers.specs.Ranges.{Within}
 use Rattle.numbers.proofs.Ranges.{within_more}
-use Rattle.method.specs.computed.Rooms.{largest_reach, HoldIn, Room}
+use Rattle.method.specs.computed.Rooms.{largest_reach, Room}
 use Rattle.method.specs.declared.Line.{Line}
 use Rattle.method.proofs.Rooms.{span_within}
 use Rattle.bounds.specs.Asks.{Drawn}
@@ -21,14 +21,8 @@ module _ {left : ℕ} {l : Line} (r : Room left l) where
   pub room-half3 : Within largest_reach l.market.half3.0
   room-half3 = within_more (span_within r.market.half3) (omega arith)
 
-  pub room-up : HoldIn l.holds.up
-  room-up = r.holds.up
-
-  pub room-down : HoldIn l.holds.down
-  room-down = r.holds.down
-
   pub room-drawn : Drawn l.terms.factors l.market
   room-drawn = record { factors = r.terms.factors; centre = room-centre; half1 = room-half1 }
 
--- `search (needs, rooms)` proves what is asked of a level of the market or of a hold, whichever it is
-pub ruleset rooms = (room-centre, room-half1, room-half2, room-half3, room-up, room-down)
+-- what is asked of a level of the market or of an interest bound, whichever it is
+pub ruleset rooms = (room-centre, room-half1, room-half2, room-half3, room-drawn)

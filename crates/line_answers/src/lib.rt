@@ -17,6 +17,7 @@ use method::{
 use numbers::{Seconds, Steps};
 
 // Both limits count as inside.
+#[tactic(auto, unfolding(method::specs::told::Questions::placed))]
 pub fn placed(k: Limits, price: Steps) -> PlaceAnswer
     ensures { result ≡ placed k price }
 {
@@ -29,6 +30,7 @@ pub fn placed(k: Limits, price: Steps) -> PlaceAnswer
     PlaceAnswer::Inside
 }
 
+#[tactic(auto, unfolding(method::specs::told::Report::market_bounds))]
 fn market_bounds(centre: Steps, half: Steps) -> BothBounds
     requires { Within largest_reach centre.0 × Within largest_reach half.0 }
     ensures { result ≡ market_bounds centre half }
@@ -41,6 +43,7 @@ fn market_bounds(centre: Steps, half: Steps) -> BothBounds
     }
 }
 
+#[tactic(auto, unfolding(method::specs::told::Report::interest_bounds))]
 fn interest_bounds(l: Line) -> BothBounds
     requires { Drawn l.terms.factors l.market }
     ensures { result ≡ interest_bounds l }
@@ -56,6 +59,7 @@ fn interest_bounds(l: Line) -> BothBounds
     }
 }
 
+#[tactic(auto, unfolding(method::specs::told::Report::hold_report, method::specs::computed::Rooms::HoldIn))]
 fn hold_report(wait: Seconds, h: Hold) -> HoldReport
     requires { (wait.0 ≤ longest_hold) × HoldIn h }
     ensures { result ≡ hold_report wait h }
@@ -70,6 +74,7 @@ fn hold_report(wait: Seconds, h: Hold) -> HoldReport
 }
 
 // All that a gate or an operator asks of a line, with the session's shifts left and its clock.
+#[tactic(auto, using(crate::proofs::Rooms::rooms), unfolding(method::specs::told::Report::line_report))]
 pub fn line_report(wait: Seconds, left: u32, clock: Seconds, l: Line) -> Report
     requires { (wait.0 ≤ longest_hold) × Room left l }
     ensures { result ≡ line_report wait left clock l }
@@ -106,6 +111,7 @@ pub fn line_report(wait: Seconds, left: u32, clock: Seconds, l: Line) -> Report
 }
 
 // What stands on the line at the end.
+#[tactic(auto, unfolding(method::specs::told::Rows::closing_row, method::specs::told::Report::interest_bounds))]
 pub fn closing_row(l: Line) -> Row
     requires { Drawn l.terms.factors l.market }
     ensures { result ≡ closing_row l }
