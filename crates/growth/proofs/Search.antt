@@ -24,9 +24,6 @@ no_place h = omega arith
 abbrev pub Passed : List Key → ℕ → ℕ → Type 0
 Passed keys days i = found_line days keys ≡ i + found_line days (drop i keys)
 
-pub passed_none : (keys : List Key) (days : ℕ) → Passed keys days 0
-passed_none keys days = omega arith
-
 module _ (keys : List Key) (days i : ℕ) (p : Passed keys days i) where
   pub passed_turn : i < length keys → (get_or keys i no_key).days < days → Passed keys days (i + 1)
   passed_turn h g = rw add-one (omega (arith, p, step))

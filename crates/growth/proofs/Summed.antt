@@ -1,10 +1,11 @@
 -- What holds at the head of the series' loop, and after a turn; and what its end is short of a factor. Assumes nothing.
-use mathlib.Core.Path.{◌≡◌, refl, ap, ap₂, ◌∙◌}
+use mathlib.Core.Path.{◌≡◌, refl, ap, ap₂}
 use Prim.Native.Nat.{ℕ, zero, suc, ◌+◌, ◌*◌, ◌/◌, ◌≤◌, ◌<◌}
 use native.Mathlib.Nat.{not-suc-le-zero, div-le_of_le-mul, le_trans, mul-le-mul}
 use native.Mathlib.Numerals.{add-one}
 use native.Mathlib.Omega.{arith}
 use Rattle.method.specs.words.Growth.{most_exponent, term, series, outer_part, up_factor}
+use Rattle.method.proofs.Growth.{up-between}
 
 -- after the k-th term
 pub record Summed (y a sum k : ℕ) : Type 0 where
@@ -33,17 +34,9 @@ module _ {y a sum k : ℕ} (r : Summed y a sum k) (more : k < 12) (cap : y ≤ m
   unfolding series
   next-series = rw add-one (ap₂ ◌+◌ r.is-series (rw add-one at next-term))
 
-  pub product : a * y < 1_000_000_000_000_000_000
-  product = omega (arith, mul-le-mul r.small cap)
-
   pub summed_turn : Summed y next (sum + next) (k + 1)
   summed_turn =
       record { turn = omega arith; is-term = next-term; is-series = next-series; small = next_small; bounded = omega (arith, r.bounded, next_small) }
-
-pub summed_end : {y a sum k : ℕ} → Summed y a sum k → 12 ≤ k → sum ≡ series y 12
-summed_end {y} {k = k} r h =
-    let last : k ≡ 12 = omega (arith, r.turn) in
-    r.is-series ∙ ap (λ (n : ℕ). series y n) last
 
 -- ---- the series by itself is no factor but at 0
 outer_above : (y : ℕ) → 0 < y → outer_part y ≡ 20
@@ -54,3 +47,6 @@ outer_above (suc y) h = refl
 pub with_outer_part : {y sum : ℕ} → 0 < y → sum ≡ series y 12 → sum + 20 ≡ up_factor y
 unfolding up_factor
 with_outer_part {y} h e = omega (arith, e, outer_above y h)
+
+-- no factor is below 1 or too large
+pub ruleset up_range = (up-between)

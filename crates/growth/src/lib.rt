@@ -60,6 +60,7 @@ pub fn rate_at(keys: [Key; 16], n: usize, days: u32) -> Millionths
     between_keys(l, r, days)
 }
 
+#[tactic(auto, unfolding(method::specs::words::Growth::exponent))]
 pub fn exponent(rate: Millionths, days: u32) -> Billionths
     requires { (rate.0 ≤ largest_rate) × (days ≤ most_days) }
     ensures { result.0 ≡ exponent rate.0 days }
@@ -98,6 +99,7 @@ fn up_factor(y: Billionths) -> Billionths
     Billionths(sum.0 + OUTER_PART)
 }
 
+#[tactic(auto, using(crate::proofs::Summed::up_range), unfolding(method::specs::words::Growth::factors_of, method::specs::words::Growth::down_factor))]
 pub fn factors(y: Billionths) -> Factors
     requires { y.0 ≤ most_exponent }
     ensures { result ≡ factors_of y.0 }
