@@ -1,5 +1,5 @@
 -- Refusals that say more than they once did: a theorem for each statement of laws/Parted. Assumes nothing.
-use mathlib.Core.List.{List}
+use Rattle.std.proofs.Common.{List, arith}
 use Prim.Native.Nat.{ℕ}
 use Rattle.method.specs.words.Types.{Millionths, Key, Contract, Field, TableReason}
 use Rattle.method.specs.words.Ranges.{ContractIn}
@@ -10,7 +10,7 @@ use Rattle.method.specs.computed.Types.{Event}
 use Rattle.method.proofs.Fields.{by_first}
 use Rattle.method.proofs.EventAnswered.{Says, tick_or_quote, says}
 
--- ---- the ranges of a contract
+-- ---- the ranges of a contract; the width share by arithmetic, so that where its range leaves out the end, it is contract_now that falls
 contract_once : (c : Contract) → ContractIn c → ContractOnce c
 contract_once c r =
     record {
@@ -23,7 +23,7 @@ contract_once c r =
       rate3 = (r Field.Rate3).0;
       rising2 = (r Field.Rate2).1;
       rising3 = (r Field.Rate3).1;
-      width = r Field.Width;
+      width = omega (arith, r Field.Width);
       days = r Field.Days;
       flags = r Field.Flags;
     }
