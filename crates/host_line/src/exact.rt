@@ -51,6 +51,7 @@ fn exact_on(side: Side, near: Millionths, left: u32, l: Line) -> bool
     !pressed
 }
 
+#[tactic(auto, unfolding(method::specs::computed::Sound::Exact))]
 pub fn exact(near: Millionths, left: u32, l: Line) -> bool
     requires { JudgeableLine near l }
     ensures { Decides result (Exact near left l) }

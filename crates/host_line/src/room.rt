@@ -126,6 +126,7 @@ fn limits(t: Terms, m: Market, k: Limits) -> bool
     floor(k, t.flags)
 }
 
+#[tactic(auto, unfolding(method::specs::computed::Rooms::PriceIn))]
 fn price(p: Price) -> bool
     ensures { Decides result (PriceIn p) }
 {
@@ -150,6 +151,7 @@ fn book(b: Book) -> bool
     price(ask)
 }
 
+#[tactic(auto, unfolding(method::specs::computed::Rooms::HoldIn))]
 fn hold(h: Hold) -> bool
     ensures { Decides result (HoldIn h) }
 {
