@@ -1,21 +1,19 @@
 -- What the steps of the opening numbers come to fits an `i64`, from the contract's ranges. Assumes nothing.
 use mathlib.Core.Path.{◌≡◌}
-use mathlib.Core.Bool.{true, false}
-use Prim.Native.Nat.{ℕ, ◌*◌, ◌<◌, ◌^◌}
+use mathlib.Core.Bool.{false}
+use Prim.Native.Nat.{ℕ, ◌*◌}
 use native.Mathlib.Omega.{arith}
 use lib.Dec.{lit<, lit≤}
-use lib.IntN.{ℤ, pos, nat_abs, ◌+ℤ◌, ◌-ℤ◌, ◌*ℤ◌}
-use lib.Signed.{lt_z, ◌≤ℤ◌, ◌<ℤ◌}
+use lib.IntN.{ℤ, pos, ◌+ℤ◌, ◌-ℤ◌, ◌*ℤ◌}
 use mir.Syntax.{w64}
 use mir.Val.{SFits, to_z, of_z}
 use mir.Facts.{to_z-of_z}
-use Rattle.numbers.specs.Ranges.{Within, Between, Span}
+use Rattle.numbers.specs.Ranges.{Within, Between}
 use Rattle.numbers.specs.Rounding.{floor, ceiling}
-use Rattle.numbers.proofs.Halves.{zarith, apart, abs_is, sub_is}
-use Rattle.numbers.proofs.Ranges.{fits, floor_within, within_add, within_sub, within_lit, within_mul, within_pos, within_more}
+use Rattle.numbers.proofs.Ranges.{fits, floor_within, within_add, within_sub, within_mul, within_pos, within_more}
 use Rattle.numbers.proofs.Machine.{cast_back}
 use Rattle.method.specs.words.Types.{steps}
-use Rattle.method.specs.words.Ranges.{whole, largest_price, ContractIn}
+use Rattle.method.specs.words.Ranges.{whole, ContractIn}
 use Rattle.method.specs.words.Bounds.{bound}
 use Rattle.method.specs.words.Opening.{normal_price, corridor_half, corridor}
 use Rattle.method.specs.computed.Rooms.{largest_bound}
@@ -24,28 +22,6 @@ use Rattle.method.proofs.Rooms.{span_within}
 use Rattle.bounds.proofs.Drawing.{drawn_within}
 use Rattle.table_line.specs.Names.{Up, Down, Millionths, Contract, Factors, Market, Limits}
 use Rattle.table_line.specs.Asks.{Spanned}
-
--- ---- a size
-pub turned_fits : {z : ℤ} → Within largest_price z → SFits w64 (pos 0 -ℤ z)
-turned_fits w = fits (within_sub (within_lit 0) w) (lit< tt)
-
-pub ruleset turns = (turned_fits)
-
-pub size_below : (z : ℤ) → z <ℤ pos 0 → pos 0 -ℤ z ≡ pos (nat_abs z)
-size_below z h = omega (zarith, abs_is z, sub_is (pos 0) z, apart z)
-
-pub size_above : (z : ℤ) → pos 0 ≤ℤ z → z ≡ pos (nat_abs z)
-size_above z h = omega (zarith, abs_is z, apart z)
-
--- ---- the normal price, from the size of the spot
-module _ (c : Contract) (size : ℤ) (e : size ≡ pos (nat_abs c.spot.0)) where
-  pub normal_least : lt_z size c.least.0 ≡ true → c.least.0 ≡ normal_price c
-  unfolding normal_price
-  normal_least t = rw (rw e at t)
-
-  pub normal_size : lt_z size c.least.0 ≡ false → size ≡ normal_price c
-  unfolding normal_price
-  normal_size t = rw (rw e at t) e
 
 -- ---- a half-width, from the normal price n
 module _ (c : Contract) (r : ContractIn c) (rate : ℕ) (s : Between 1 whole rate) (n : ℤ) (e : n ≡ normal_price c) where
@@ -63,15 +39,6 @@ module _ (c : Contract) (r : ContractIn c) (rate : ℕ) (s : Between 1 whole rat
 
   pub width_is : ceiling (to_z w64 (of_z w64 read_back)) whole ≡ ceiling (normal_price c *ℤ pos rate) whole
   width_is = rw (to_z-of_z width_fits, product_is)
-
--- ---- a half-move
-pub half_move_fits : {share : ℕ} {half : ℤ} → Between 1 whole share → Span (pos 1) (pos largest_price) half → SFits w64 (pos share *ℤ half)
-half_move_fits s r = fits (within_mul (within_pos s.most) (span_within r)) (lit< tt)
-
-pub share_fits : {share : ℕ} → Between 1 whole share → share < 2 ^ 63
-share_fits s = omega (arith, s.most)
-
-pub ruleset moves = (half_move_fits, share_fits, cast_back)
 
 -- ---- a corridor, from the bounds u and l
 module _ (width : Millionths) (f : Factors) (m : Market) (s : Spanned width f m) (u l : ℤ) (eu : u ≡ bound Up f m) (el : l ≡ bound Down f m) where

@@ -34,6 +34,7 @@ fn magnitude(z: Steps) -> Steps
 }
 
 // The larger of |spot| and least price.
+#[tactic(auto, unfolding(method::specs::words::Opening::normal_price))]
 fn normal_price(c: Contract) -> Steps
     requires { ContractIn c }
     ensures { result.0 ≡ normal_price c }
@@ -56,6 +57,7 @@ fn half_width(c: Contract, rate: Millionths) -> Steps
     rounding::rounded(Side::Up, normal.0 * factor, WHOLE)
 }
 
+#[tactic(auto, unfolding(method::specs::words::Opening::market_of))]
 pub fn market(c: Contract) -> Market
     requires { ContractIn c }
     ensures { result ≡ market_of c }
@@ -72,6 +74,7 @@ pub fn market(c: Contract) -> Market
     }
 }
 
+#[tactic(auto, unfolding(method::specs::words::Opening::half_move))]
 fn half_move(shift: Millionths, half1: Steps) -> Steps
     requires { Between 1 whole shift.0 × Span (pos 1) (pos largest_price) half1.0 }
     ensures { result ≡ half_move shift half1 }
@@ -81,6 +84,7 @@ fn half_move(shift: Millionths, half1: Steps) -> Steps
 }
 
 // What stays for the session. The flags are rebuilt from their two bits.
+#[tactic(auto, unfolding(method::specs::words::Opening::terms_of))]
 pub fn terms(shift: Millionths, y: Billionths, c: Contract) -> Terms
     requires { ContractIn c × (Between 1 whole shift.0 × (y.0 ≤ most_exponent)) }
     ensures { result ≡ terms_of shift y.0 c }
@@ -119,6 +123,7 @@ fn corridor(width: Millionths, f: Factors, m: Market) -> Limits
 }
 
 // Neither limit beyond its interest bound (refusal 9).
+#[tactic(auto, unfolding(method::specs::computed::Opening::inside_bounds))]
 fn inside_bounds(f: Factors, m: Market, k: Limits) -> bool
     requires { Drawn f m }
     ensures { result ≡ inside_bounds f m k }
@@ -132,6 +137,7 @@ fn inside_bounds(f: Factors, m: Market, k: Limits) -> bool
 }
 
 // A line with an empty book and no hold, its lower limit floored.
+#[tactic(auto, unfolding(method::specs::words::Opening::fresh_line))]
 fn fresh_line(t: Terms, m: Market, k: Limits) -> Line
     ensures { result ≡ fresh_line t m k }
 {
@@ -152,6 +158,7 @@ fn fresh_line(t: Terms, m: Market, k: Limits) -> Line
 }
 
 // The last two refusals of a contract, 8 and 9, or its line.
+#[tactic(auto, unfolding(method::specs::computed::Opening::opened_with))]
 pub fn opened_with(width: Millionths, t: Terms, m: Market) -> LineAnswer
     requires { Spanned width t.factors m }
     ensures { result ≡ opened_with width t m }
