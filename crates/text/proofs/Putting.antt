@@ -11,11 +11,10 @@ use lib.Signed.{mag}
 use mir.Syntax.{w64}
 use mir.Val.{to_z, of_z}
 use mir.Facts.{to_z-of_z}
-use Rattle.io.specs.Counts.{IsPrefixLen}
-use Rattle.io.specs.Digits.{last_digits, IsDigitCount}
+use Rattle.std.specs.Fmt.{decimal as printed}
 use Rattle.method.specs.told.Text.{decimal, signed_text}
 use Rattle.rows.specs.Buffer.{written}
-use Rattle.rows.proofs.Buffer.{nothing_written, written-long, written_on}
+use Rattle.rows.proofs.Buffer.{nothing_written, written_on}
 use Rattle.text.specs.Line.{sign, Put}
 use Rattle.text.proofs.Digits.{decimal-is}
 
@@ -31,9 +30,6 @@ put_byte b at x h =
     }
 
 module _ {b c xs : List ℕ} {at m : ℕ} (p : Put b at xs c m) where
-  pub put-kept : m ≤ length b → length c ≡ length b
-  put-kept h = ap length p.buffer ∙ written-long b at xs (omega (arith, p.place))
-
   -- the next text right after it
   pub put_on : {d ys : List ℕ} {e : ℕ} → m ≤ length b → Put c m ys d e → Put b at (xs ++ ys) d e
   put_on {ys = ys} h q =
@@ -58,8 +54,7 @@ signed_is (pos n) = refl
 signed_is (negsuc n) = refl
 
 -- the digits of m, copied
-pub put-decimal : (b out : List ℕ) (at k : ℕ) {c : List ℕ} {m n : ℕ} → m ≡ n → IsPrefixLen k out → IsDigitCount 10 1 m k → take k out ≡ last_digits 10 k m → c ≡ written b at (take k out)
-    → Put b at (decimal n) c (at + k)
-put-decimal b out at k {n = n} same long few made copied =
-    let e : take k out ≡ decimal n = made ∙ decimal-is few ∙ ap decimal same in
-    record { buffer = rw e at copied; place = omega (arith, long.1, ap length e) }
+pub put-decimal : (b xs : List ℕ) (at : ℕ) {c : List ℕ} {m n : ℕ} → m ≡ n → m < 2 ^ 64 → xs ≡ printed m → c ≡ written b at xs → Put b at (decimal n) c (at + length xs)
+put-decimal b xs at {m = m} {n = n} same small made copied =
+    let e : xs ≡ decimal n = made ∙ decimal-is m small ∙ ap decimal same in
+    record { buffer = rw e at copied; place = omega (arith, ap length e) }

@@ -11,7 +11,6 @@ use lib.Seq.{drop-cons, take_at, drop_at, drop-drop}
 use Rattle.method.specs.declared.Side.{Side}
 use Rattle.method.specs.declared.Side.TheVariants.{Up, Down}
 use Rattle.method.specs.declared.Row.{Row}
-use Rattle.method.specs.declared.Row.TheVariants as Row
 use Rattle.method.specs.told.Refusals.{table_number, field_number}
 use Rattle.method.specs.told.Rows.{side_number, row_numbers, numbers_of}
 use Rattle.method.specs.told.Text.{ascii, decimal, line_with, side_letter, field_text, line_text, text_of}

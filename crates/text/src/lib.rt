@@ -59,11 +59,11 @@ fn put(buffer: &mut [u8], at: usize, n: i64, after: u8) -> usize
     ensures put { Put buffer.old at (signed_text n ++ (after ∷ [])) buffer.new result }
     ensures upper_bound { result ≤ at + 22 }
 {
-    let mut digits = [0u8; 20];
-    let count = io::decimal(magnitude(n), &mut digits);
+    let mut decimal = itoa::Buffer::new();
+    let digits = decimal.format(magnitude(n)).as_bytes();
     let start = put_sign(buffer, at, n);
-    put_digits(buffer, start, &digits[..count]);
-    let end = start + count;
+    put_digits(buffer, start, digits);
+    let end = start + digits.len();
     buffer[end] = after;
     end + 1
 }
