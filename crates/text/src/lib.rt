@@ -109,6 +109,9 @@ fn refused_event(row: [i64; 6], buffer: &mut [u8], at: usize) -> usize
     put(buffer, letter, row[1], b'\n')
 }
 
+// The place of a field where none is named.
+const NO_FIELD: i64 = 0;
+
 // A refused table: the number, the line, and the field where one is named.
 fn refused_table(row: [i64; 6], buffer: &mut [u8], at: usize) -> usize
     requires { at + 68 ≤ length buffer.old }
@@ -118,7 +121,7 @@ fn refused_table(row: [i64; 6], buffer: &mut [u8], at: usize) -> usize
     let letter = put_letter(buffer, at, b'T');
     let number = put(buffer, letter, row[1], b' ');
     let field = row[3];
-    if field == 0 {
+    if field == NO_FIELD {
         return put(buffer, number, row[2], b'\n');
     }
     let line = put(buffer, number, row[2], b' ');

@@ -5,12 +5,12 @@ use Rattle.text.proofs.Putting.{put_on, put_back}
 use Rattle.text.proofs.Signs.{is-so, is-not}
 use Rattle.text.proofs.refused_table.Goals as goal
 
-pub returns-then-field-eq0-clause-put : goal.returns-then-field-eq0-clause-put
-returns-then-field-eq0-clause-put c =
+pub returns-then-field-eq-NO_FIELD-clause-put : goal.returns-then-field-eq-NO_FIELD-clause-put
+returns-then-field-eq-NO_FIELD-clause-put c =
     let row = c.args.row in
     let line = put_back (number row 2) 10 (search rules) c.put.ensures.put in
     let number_on = put_on (put_back (number row 1) 32 (search rules) c.put-number.ensures.put) (omega arith) line in
-    rw (is-so (number row 3) 0 (omega arith) (record { sfits = search rules }) c.if-field-eq0.true) (put_on c.put_letter-letter.ensures (omega arith) number_on)
+    rw (is-so (number row 3) 0 (omega arith) (record { sfits = search rules }) c.if-field-eq-NO_FIELD.true) (put_on c.put_letter-letter.ensures (omega arith) number_on)
 
 pub returns-clause-put : goal.returns-clause-put
 returns-clause-put c =
@@ -18,4 +18,4 @@ returns-clause-put c =
     let field = put_back (number row 3) 10 (search rules) c.put-2.ensures.put in
     let line = put_on (put_back (number row 2) 32 (search rules) c.put-line.ensures.put) (omega arith) field in
     let number_on = put_on (put_back (number row 1) 32 (search rules) c.put-number.ensures.put) (omega arith) line in
-    rw (is-not (number row 3) 0 c.if-field-eq0.false) (put_on c.put_letter-letter.ensures (omega arith) number_on)
+    rw (is-not (number row 3) 0 c.if-field-eq-NO_FIELD.false) (put_on c.put_letter-letter.ensures (omega arith) number_on)
