@@ -57,6 +57,7 @@ pub const NO_SHIFT: ShiftLine = ShiftLine {
 };
 
 // Opens a session from the bytes of a morning table.
+#[tactic(auto, using(crate::proofs::Opening::opens))]
 pub fn open(bytes: &[u8]) -> OpenReply
     ensures { result ≡ opened_session (opening bytes.now) }
 {
