@@ -1,23 +1,18 @@
 -- One contract: what its opening asks, from the table's ranges. Assumes nothing.
-use mathlib.Core.Path.{◌≡◌, ap, ◌∙◌}
-use mathlib.Core.List.{List}
+use mathlib.Core.Path.{◌≡◌}
 use Prim.Native.Nat.{ℕ, ◌≤◌}
 use lib.Dec.{lit≤}
 use Rattle.numbers.proofs.Ranges.{within_more}
 use Rattle.method.specs.words.Ranges.{ContractIn}
-use Rattle.method.specs.words.Growth.{rate_at, exponent, most_exponent}
-use Rattle.method.specs.words.Opening.{exponent_of, terms_of, market_of}
+use Rattle.method.specs.words.Growth.{most_exponent}
+use Rattle.method.specs.words.Opening.{terms_of, market_of}
 use Rattle.method.specs.computed.Rooms.{FactorsIn}
 use Rattle.method.proofs.Growth.{factors_in}
 use Rattle.method.proofs.Opening.{market_in}
 use Rattle.method.proofs.Rooms.{span_within}
 use Rattle.bounds.specs.Asks.{Drawn}
 use Rattle.table_line.specs.Asks.{Spanned}
-use Rattle.table.specs.Names.{Millionths, Billionths, Key, Contract, Field, Terms, Market}
-
--- the exponent y, from the rate r
-pub exponent-is : (keys : List Key) (c : Contract) (r : Millionths) (y : Billionths) → r.0 ≡ rate_at keys c.days → y.0 ≡ exponent r.0 c.days → y.0 ≡ exponent_of keys c
-exponent-is keys c r y e f = f ∙ ap (λ (n : ℕ). exponent n c.days) e
+use Rattle.table.specs.Names.{Millionths, Contract, Field, Terms, Market}
 
 terms-factors : (shift : Millionths) (y : ℕ) (c : Contract) → y ≤ most_exponent → FactorsIn (terms_of shift y c).factors
 unfolding terms_of

@@ -1,11 +1,11 @@
--- The whole table: each way in which `open` ends is the method's answer. Assumes nothing.
+-- A table whose header and layout are good: how `open` ends then is the method's answer, and what its lines ask. Assumes nothing.
 use mathlib.Core.Path.{◌≡◌, refl, sym, ap, ◌∙◌}
 use mathlib.Core.Bool.{Bool, true, false, cond}
 use mathlib.Core.List.{List, [], ◌∷◌}
 use mathlib.Core.Option.{Option, none, some}
 use Prim.Native.Nat.{ℕ, suc, ◌≤◌, ◌<◌}
 use native.Mathlib.Omega.{arith}
-use borrow.Author.Tests.{le-leb, lt-leb, eq-eqb, ne_eqb}
+use borrow.Author.Tests.{le-leb, eq-eqb}
 use lib.ListN.{length, take}
 use Rattle.numbers.specs.Arrays.{padded}
 use Rattle.numbers.proofs.Arrays.{padded-take}
@@ -35,58 +35,40 @@ first-line line before (k ∷ keys) p q = go (key_good before k) q (first-line (
         never : line ≡ 0 → ⊥
         never q = omega arith
 
-pub too_short : (b : List ℕ) → length b < 40 → refused TableReason.Length 0 ≡ opening b
-unfolding opening
-too_short b h = rw (lt-leb 40 (length b) h)
+module _ (b : List ℕ) (h : Header) (e : h ≡ header_of b) (long : 40 ≤ length b) (edition : h.edition ≡ 1) (ranges : header_good h ≡ true)
+    (laid : laid_out h (length b) ≡ true) (ks : List Key) (ek : ks ≡ padded 16 no_key (keys_at b 40 h.keys)) where
+  -- the keys are read out of the front of their array
+  front : take h.keys ks ≡ keys_at b 40 h.keys
+  front =
+      rw ek
+      (ap (λ (n : ℕ). take n (padded 16 no_key (keys_at b 40 h.keys))) (sym (keys_length b 40 h.keys))
+      ∙ padded-take 16 no_key (keys_at b 40 h.keys))
 
-module _ (b : List ℕ) (h : Header) (e : h ≡ header_of b) (long : 40 ≤ length b) where
-  pub edition_not_1 : (h.edition ≡ 1 → ⊥) → refused TableReason.Edition 0 ≡ opening b
-  unfolding opening
-  edition_not_1 n = rw (le-leb 40 (length b) long, ← e, ne_eqb h.edition 1 n)
+  records : opening b ≡ if_keys_good (bad_key 1 0 (take h.keys ks)) (open_lines h (take h.keys ks) 1 [] (contracts_at b (contracts_start h) h.contracts))
+  unfolding opening open_records
+  records = rw (le-leb 40 (length b) long, ← e, eq-eqb h.edition 1 edition, ranges, laid, front)
 
-  module _ (edition : h.edition ≡ 1) where
-    pub header_bad : header_good h ≡ false → refused TableReason.Header 0 ≡ opening b
-    unfolding opening
-    header_bad t = rw (le-leb 40 (length b) long, ← e, eq-eqb h.edition 1 edition, t)
+  module _ (bad : ℕ) (eb : bad ≡ line_or_zero (bad_key 1 0 (take h.keys ks))) where
+    pub key_bad : (bad ≡ 0 → ⊥) → refused TableReason.Key bad ≡ opening b
+    key_bad n = go (bad_key 1 0 (take h.keys ks)) eb ∙ sym records
+      where
+        go : (k : Option ℕ) → bad ≡ line_or_zero k
+            → refused TableReason.Key bad ≡ if_keys_good k (open_lines h (take h.keys ks) 1 [] (contracts_at b (contracts_start h) h.contracts))
+        go none z = absurd (n z)
+        go (some line) z = ap (λ (m : ℕ). refused TableReason.Key m) z
 
-    module _ (ranges : header_good h ≡ true) where
-      pub layout_bad : laid_out h (length b) ≡ false → refused TableReason.Length 0 ≡ opening b
-      unfolding opening
-      layout_bad t = rw (le-leb 40 (length b) long, ← e, eq-eqb h.edition 1 edition, ranges, t)
+    no_bad_key : bad ≡ 0 → bad_key 1 0 (take h.keys ks) ≡ none
+    no_bad_key z = first-line 1 0 (take h.keys ks) (omega arith) (sym eb ∙ z)
 
-      module _ (laid : laid_out h (length b) ≡ true) (ks : List Key) (ek : ks ≡ padded 16 no_key (keys_at b 40 h.keys)) where
-        -- the keys are read out of the front of their array
-        front : take h.keys ks ≡ keys_at b 40 h.keys
-        front =
-            rw ek
-            (ap (λ (n : ℕ). take n (padded 16 no_key (keys_at b 40 h.keys))) (sym (keys_length b 40 h.keys))
-            ∙ padded-take 16 no_key (keys_at b 40 h.keys))
+    pub lines_next : bad ≡ 0 → open_lines h (take h.keys ks) 1 [] (contracts_at b (contracts_start h) h.contracts) ≡ opening b
+    lines_next z =
+        ap (λ (k : Option ℕ). if_keys_good k (open_lines h (take h.keys ks) 1 [] (contracts_at b (contracts_start h) h.contracts))) (sym (no_bad_key z))
+        ∙ sym records
 
-        records : opening b ≡ if_keys_good (bad_key 1 0 (take h.keys ks)) (open_lines h (take h.keys ks) 1 [] (contracts_at b (contracts_start h) h.contracts))
-        unfolding opening open_records
-        records = rw (le-leb 40 (length b) long, ← e, eq-eqb h.edition 1 edition, ranges, laid, front)
-
-        module _ (bad : ℕ) (eb : bad ≡ line_or_zero (bad_key 1 0 (take h.keys ks))) where
-          pub key_bad : (bad ≡ 0 → ⊥) → refused TableReason.Key bad ≡ opening b
-          key_bad n = go (bad_key 1 0 (take h.keys ks)) eb ∙ sym records
-            where
-              go : (k : Option ℕ) → bad ≡ line_or_zero k
-                  → refused TableReason.Key bad ≡ if_keys_good k (open_lines h (take h.keys ks) 1 [] (contracts_at b (contracts_start h) h.contracts))
-              go none z = absurd (n z)
-              go (some line) z = ap (λ (m : ℕ). refused TableReason.Key m) z
-
-          no_bad_key : bad ≡ 0 → bad_key 1 0 (take h.keys ks) ≡ none
-          no_bad_key z = first-line 1 0 (take h.keys ks) (omega arith) (sym eb ∙ z)
-
-          pub lines_next : bad ≡ 0 → open_lines h (take h.keys ks) 1 [] (contracts_at b (contracts_start h) h.contracts) ≡ opening b
-          lines_next z =
-              ap (λ (k : Option ℕ). if_keys_good k (open_lines h (take h.keys ks) 1 [] (contracts_at b (contracts_start h) h.contracts))) (sym (no_bad_key z))
-              ∙ sym records
-
-          pub lined : bad ≡ 0 → Lined h ks (length b)
-          lined z =
-              record {
-                header = header_in h ranges;
-                good = keys_in 1 0 (take h.keys ks) (no_bad_key z);
-                whole = omega (arith, (laid_in h (length b) laid).whole);
-              }
+    pub lined : bad ≡ 0 → Lined h ks (length b)
+    lined z =
+        record {
+          header = header_in h ranges;
+          good = keys_in 1 0 (take h.keys ks) (no_bad_key z);
+          whole = omega (arith, (laid_in h (length b) laid).whole);
+        }

@@ -52,6 +52,7 @@ const BLANK: Line = Line {
 // ---- one contract after the lines before it
 
 // An id that is not 0 and stands on none of the first `count` lines (refusal 6).
+#[tactic(auto, unfolding(method::specs::computed::Opening::id_good))]
 fn id_good(lines: [Line; 32], count: usize, id: u32) -> bool
     requires { count ≤ most_contracts }
     ensures { result ≡ id_good (take count lines) id }
@@ -71,6 +72,7 @@ fn id_good(lines: [Line; 32], count: usize, id: u32) -> bool
     true
 }
 
+#[tactic(auto, unfolding(method::specs::computed::Opening::open_line))]
 fn open_line(
     shift: Millionths,
     keys: [Key; 16],
@@ -113,6 +115,7 @@ pub struct TableReply {
     pub near: Millionths,
 }
 
+#[tactic(auto, unfolding(crate::specs::TableReply::opened_as))]
 fn refused(why: TableReason, line: u32) -> TableReply
     ensures { result ≡ opened_as (refused why line) }
 {
@@ -174,6 +177,7 @@ pub fn ends_at(bytes: &[u8]) -> usize
 }
 
 // Opens a morning table. Any bytes of any length get an answer, and nothing is worked out from a count before it is checked.
+#[tactic(auto, unfolding(method::specs::computed::Table::opening))]
 pub fn open(bytes: &[u8]) -> TableReply
     ensures { result ≡ opened_as (opening bytes.now) }
 {
