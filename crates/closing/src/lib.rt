@@ -10,6 +10,7 @@ use corridor::Session;
 use rows::RowsAnswer;
 
 // Where the room is not there, nothing is written.
+#[tactic(auto, unfolding(crate::specs::Closing::closed, crate::specs::Closing::closed_into))]
 pub fn close(s: Session, out: &mut [i64]) -> RowsAnswer
     requires { Valid s }
     ensures value { result ≡ closed s (length out.old) }
