@@ -91,6 +91,3 @@ module _ {A : Type 0} (row_of : A → Row) (out : List ℤ) (at : ℕ) (xs : Lis
       → next ≡ written out at (numbers_of (map row_of (take (i + 1) xs)))
   row_on d e f =
       f ∙ rw (e, sym first-long) (written_on out at first (omega (arith, first-long)) (row d)) ∙ ap (written out at) (joined d)
-
-  pub long_on : (now : List ℤ) {next : List ℤ} (d : A) → length now ≡ length out → next ≡ written now (at + 6 * i) (row d) → length next ≡ length out
-  long_on now d same f = ap length f ∙ written-long now (at + 6 * i) (row d) (omega (arith, row_long (row_of (get_or xs i d)))) ∙ same
