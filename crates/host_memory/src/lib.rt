@@ -53,6 +53,7 @@ fn rows(pair: &[[u64; 16]; 2]) -> usize
 
 // ---- what is read
 
+#[tactic(auto, using(crate::proofs::Places::head_is))]
 pub fn head(memory: &[[[u64; 16]; 2]; 33]) -> Head
     ensures { session_in memory.now ≡ session_of (session_in memory.now).lines result }
 {
