@@ -37,6 +37,7 @@ fn found(s: Session, id: u32) -> Sought
 }
 
 // The limits of a contract.
+#[tactic(auto, unfolding(crate::specs::Asked::sought, method::specs::told::Questions::limits))]
 pub fn limits(s: Session, id: u32) -> LimitsAnswer
     requires { Valid s }
     ensures { result ≡ limits id (view s) }
@@ -51,6 +52,7 @@ pub fn limits(s: Session, id: u32) -> LimitsAnswer
 }
 
 // Where an order price lies.
+#[tactic(auto, unfolding(crate::specs::Asked::sought, method::specs::told::Questions::place))]
 pub fn place(s: Session, id: u32, price: Steps) -> PlaceAnswer
     requires { Valid s }
     ensures { result ≡ place id price (view s) }
@@ -65,6 +67,7 @@ pub fn place(s: Session, id: u32, price: Steps) -> PlaceAnswer
 }
 
 // All that stands on a contract's line.
+#[tactic(auto, unfolding(crate::specs::Asked::sought, method::specs::told::Report::report))]
 pub fn report(s: Session, id: u32) -> ReportAnswer
     requires { Valid s }
     ensures { result ≡ report id (view s) }
