@@ -17,7 +17,6 @@ use Rattle.method.specs.told.Program.{pieces, events_of}
 use Rattle.method.specs.computed.Event.{read, next}
 use Rattle.method.specs.computed.Search.{answer, run, finally}
 use Rattle.method.specs.declared.Row.{Row}
-use Rattle.method.specs.declared.Row.TheVariants as Row
 use Rattle.method.proofs.Answers.{run-right, answers_spend, run-append, finally-append}
 use Rattle.method.proofs.Demands.{by_cond}
 use Rattle.rows.specs.Buffer.{written}

@@ -20,7 +20,6 @@ use Rattle.method.specs.computed.Event.{read, next}
 use Rattle.method.specs.computed.Relation.{Right, Answers}
 use Rattle.method.specs.computed.Search.{answer, run, finally}
 use Rattle.method.specs.declared.Row.{Row}
-use Rattle.method.specs.declared.Row.TheVariants as Row
 use Rattle.method.proofs.Answers.{next_spend, run-right}
 use Rattle.rows.specs.Buffer.{written}
 use Rattle.rows.proofs.Buffer.{nothing_written, written_on, written-long, numbers-long, numbers-append}

@@ -2,7 +2,6 @@
 -- from chunk to chunk before what is told can be held against one buffer.
 use Rattle.std.specs.Prelude.{◌≡◌, List, [], ◌∷◌, ◌++◌, map, ℕ, ◌+◌, ◌*◌, ◌%◌, ◌≤◌, ℤ, length}
 use Rattle.method.specs.declared.Row.{Row}
-use Rattle.method.specs.declared.Row.TheVariants as Row
 use Rattle.method.specs.told.Rows.{numbers_of}
 use Rattle.method.specs.told.Program.{events_of}
 use Rattle.corridor.specs.declared.Session.{Session}
