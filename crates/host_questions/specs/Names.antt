@@ -1,9 +1,5 @@
 -- The data of `method` and `corridor` that this crate names.
-pub use Rattle.method.specs.declared.Limits.{Limits}
 pub use Rattle.method.specs.declared.Line.{Line}
-pub use Rattle.method.specs.declared.EventReason.{EventReason}
-pub use Rattle.method.specs.declared.LimitsAnswer.{LimitsAnswer}
 pub use Rattle.method.specs.declared.PlaceAnswer.{PlaceAnswer}
-pub use Rattle.method.specs.declared.Report.{Report}
 pub use Rattle.method.specs.declared.ReportAnswer.{ReportAnswer}
 pub use Rattle.corridor.specs.declared.Session.{Session}

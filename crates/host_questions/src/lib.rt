@@ -38,9 +38,10 @@ fn found(session: &[[[u64; 16]; 2]; 33], id: u32) -> Sought
 }
 
 // The lower and the upper limit, and whether the lower one is frozen.
+#[tactic(auto, unfolding(method::specs::told::Questions::limits, method::specs::told::Refusals::limits_said, method::specs::told::Refusals::event_number, questions::specs::Asked::sought))]
 pub fn limits(session: &[[[u64; 16]; 2]; 33], id: u32, out: &mut [i64; 3]) -> i64
     requires { Valid (session_in session.now) }
-    ensures value { result ≡ pos (limits_said (limits id (view (session_in session.now)))).number }
+    ensures number { result ≡ pos (limits_said (limits id (view (session_in session.now)))).number }
     ensures out_after { out.new ≡ told_into out.old (limits_said (limits id (view (session_in session.now)))) }
 {
     match found(session, id) {
@@ -65,6 +66,7 @@ fn place_number(answer: PlaceAnswer) -> i64
 }
 
 // Where an order price lies: below -1, inside 0, above 1; or the refusal's number.
+#[tactic(auto, unfolding(method::specs::told::Questions::place, questions::specs::Asked::sought))]
 pub fn place(session: &[[[u64; 16]; 2]; 33], id: u32, price: i64) -> i64
     requires { Valid (session_in session.now) }
     ensures { result ≡ place_number (place id (steps price) (view (session_in session.now))) }
@@ -89,9 +91,10 @@ fn reported(session: &[[[u64; 16]; 2]; 33], l: Line) -> Report
 }
 
 // All that stands on a line.
+#[tactic(auto, unfolding(method::specs::told::Report::report, method::specs::told::Refusals::report_said, method::specs::told::Refusals::event_number, questions::specs::Asked::sought))]
 pub fn report(session: &[[[u64; 16]; 2]; 33], id: u32, out: &mut [[i64; 6]; 4]) -> i64
     requires { Valid (session_in session.now) }
-    ensures value { result ≡ pos (report_said (report id (view (session_in session.now)))).number }
+    ensures number { result ≡ pos (report_said (report id (view (session_in session.now)))).number }
     ensures out_after { out.new ≡ report_into out.old (report id (view (session_in session.now))) }
 {
     match found(session, id) {
