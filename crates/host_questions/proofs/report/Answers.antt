@@ -14,7 +14,7 @@ reported-r-requires c =
     let v = c.requires.sane in
     (v.hold.most, sought-room c.args.id (view (session_in c.args.session.now)) c.in-At.l v c.in-At.ensures)
 
-pub returns-in-At-clause-number : goal.returns-in-At-clause-value
+pub returns-in-At-clause-number : goal.returns-in-At-clause-number
 unfolding report_said
 returns-in-At-clause-number c =
     let e = report_by (view (session_in c.args.session.now)) c.args.id (Sought.At c.in-At.l) c.in-At.ensures in rw (← e) refl
