@@ -16,7 +16,6 @@ use Rattle.method.specs.computed.Table.{opening}
 use Rattle.method.specs.computed.Search.{run, finally}
 use Rattle.method.specs.computed.Program.{session_rows, rows_after}
 use Rattle.method.specs.declared.Row.{Row}
-use Rattle.method.specs.declared.Row.TheVariants as Row
 use Rattle.method.specs.declared.TableAnswer.{TableAnswer}
 use Rattle.method.specs.declared.TableReason.{TableReason}
 use Rattle.rows.specs.Buffer.{written}
@@ -146,9 +145,6 @@ module _ (table events : List ℕ) (out : List ℤ) (enough : run_needs (length 
       closing_is = ap (λ (z : Tally). closing_numbers z.session) ea
 
       module _ {n : ℕ} (e : n ≡ length (closing_numbers a.session)) where
-        pub opened-small : at + n ≤ length out
-        opened-small = omega (arith, at-inside, closing_few a.session told-last)
-
         pub opened-ran : RowsAnswer.Written (at + n) ≡ ran (length out) table events
         opened-ran =
             all_ran (at + n) (omega (arith, at-is, ap length closing_is, ap length rows_are, length-append (told first events) closing))
