@@ -3,22 +3,16 @@ use mathlib.Core.Path.{◌≡◌, refl, sym, subst}
 use mathlib.Core.List.{List, [], ◌∷◌}
 use Prim.Native.Nat.{ℕ, ◌≤◌}
 use native.Mathlib.Omega.{arith}
-use lib.IntN.{ℤ, pos}
-use lib.ListN.{length, get_or, length-append}
+use lib.ListN.{length, length-append}
 use Rattle.method.specs.words.Sessions.{Answer, accepted, refused, joined}
-use Rattle.method.specs.told.Refusals.{event_number, table_said, event_said}
-use Rattle.method.specs.told.Rows.{row_numbers}
 use Rattle.method.specs.computed.Event.{read}
 use Rattle.method.specs.computed.Search.{answer, run}
 use Rattle.method.proofs.Answers.{run-right, answers_spend}
-use Rattle.method.specs.declared.Row.TheVariants as Row
-use Rattle.method.specs.declared.TableReason.{TableReason}
 use Rattle.method.specs.declared.Event.{Event}
 use Rattle.corridor.specs.View.{view, Valid}
 use Rattle.corridor.specs.Reply.{reply_of}
 use Rattle.corridor.specs.Engine.{reply_to}
-use Rattle.host_session.specs.Names.{TableAnswer, EventAnswer, EventReason, Session}
-use Rattle.host_session.specs.Answers.{line_said, field_said}
+use Rattle.host_session.specs.Names.{EventAnswer, EventReason, Session}
 
 few-lines : (s : Session) (e : Event) (a : Answer) → length (joined (a ∷ [])) ≤ 16 → (reply_of s e a).made ≤ 16
 unfolding joined reply_of
@@ -40,21 +34,3 @@ pub refused-stays : (s : Session) (e : Event) (a : Answer) (why : EventReason) �
 unfolding reply_of
 refused-stays s e (accepted cs) why h = absurd (subst IsRefused (sym h) tt)
 refused-stays s e (refused w) why h = refl
-
--- ---- what is said in numbers
-pub event-told : (a : EventAnswer) (why : EventReason) → a ≡ EventAnswer.Refused why → pos (event_number why) ≡ pos (event_said a).number
-unfolding event_said
-event-told a why e = rw e refl
-
-pub event-taken : (a : EventAnswer) → a ≡ EventAnswer.Accepted → pos 0 ≡ pos (event_said a).number
-unfolding event_said
-event-taken a e = rw e refl
-
-pub table-told : (a : TableAnswer) (why : TableReason) (line : ℕ) (row : List ℤ) → a ≡ TableAnswer.Refused why line → row ≡ row_numbers (Row.RefusedTable why line)
-    → (get_or row 1 (pos 0) ≡ pos (table_said a).number) × (get_or row 2 (pos 0) ≡ line_said a) × (get_or row 3 (pos 0) ≡ field_said a)
-unfolding table_said row_numbers
-table-told a why line row e f = rw (e, f) (refl, refl, refl)
-
-pub table-opened : (a : TableAnswer) → a ≡ TableAnswer.Opened → (pos 0 ≡ pos (table_said a).number) × (pos 0 ≡ line_said a) × (pos 0 ≡ field_said a)
-unfolding table_said
-table-opened a e = rw e (refl, refl, refl)

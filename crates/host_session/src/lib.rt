@@ -23,13 +23,14 @@ use numbers::Seconds;
 use verdict::{Change, Verdict};
 
 // Opens a session. After a refused table the memory holds none: what it reads as is then not `Valid`.
+#[tactic(auto, unfolding(method::specs::told::Refusals::table_said, method::specs::told::Rows::row_numbers))]
 pub fn open(
     session: &mut [[[u64; 16]; 2]; 33],
     table: &[u8],
     line: &mut i64,
     field: &mut i64,
 ) -> i64
-    ensures value { result ≡ pos (table_said (opened_session (opening table.now)).answer).number }
+    ensures number { result ≡ pos (table_said (opened_session (opening table.now)).answer).number }
     ensures line_after { line.new ≡ line_said (opened_session (opening table.now)).answer }
     ensures field_after { field.new ≡ field_said (opened_session (opening table.now)).answer }
     ensures session_after { session_in session.new ≡ (opened_session (opening table.now)).session }
@@ -54,6 +55,7 @@ pub fn open(
 }
 
 // By way of the whole session, which is copied out of the memory and back into it.
+#[tactic(auto, unfolding(method::specs::told::Refusals::event_said))]
 fn by_value(
     session: &mut [[[u64; 16]; 2]; 33],
     bytes: &[u8],
@@ -61,10 +63,10 @@ fn by_value(
     made: &mut usize,
 ) -> i64
     requires { Valid (session_in session.old) }
-    ensures value { result ≡ pos (event_said (reply_in session.old bytes.now).answer).number }
+    ensures number { result ≡ pos (event_said (reply_in session.old bytes.now).answer).number }
     ensures made_after { made.new ≡ (reply_in session.old bytes.now).made }
     ensures out_after { out.new ≡ written out.old 0 (shift_rows (reply_in session.old bytes.now)) }
-    ensures leaves { Leaves result session.old session.new (reply_in session.old bytes.now).session }
+    ensures session_after { Leaves result session.old session.new (reply_in session.old bytes.now).session }
 {
     let s = host_memory::taken(session);
     let r = s.event(bytes);
@@ -91,9 +93,9 @@ pub struct Seen {
 
 fn looked(session: &[[[u64; 16]; 2]; 33], e: Event) -> Seen
     requires { Valid (session_in session.now) }
-    ensures verdict_value { result.verdict ≡ decided (session_ids (view (session_in session.now)))
+    ensures verdict { result.verdict ≡ decided (session_ids (view (session_in session.now)))
         (session_in session.now).end (session_in session.now).clock e }
-    ensures quiet_value { result.quiet ≡ quiet_until (view (session_in session.now)) }
+    ensures quiet { result.quiet ≡ quiet_until (view (session_in session.now)) }
 {
     let h = host_memory::head(session);
     let n = h.count;
@@ -112,6 +114,7 @@ fn looked(session: &[[[u64; 16]; 2]; 33], e: Event) -> Seen
 }
 
 // A quote on the line at its place.
+#[tactic(auto, unfolding(method::specs::computed::Event::quoted_line, method::specs::computed::Judge::judge_line))]
 fn quoted(session: &mut [[[u64; 16]; 2]; 33], place: usize, q: Quote)
     requires { (place < 32) × Valid (session_in session.old)
         × JudgeableLine (session_in session.old).near (with_book (get_or (session_in session.old).lines place blank) q.bid q.ask) }
@@ -133,10 +136,10 @@ pub fn event(
     made: &mut usize,
 ) -> i64
     requires { Valid (session_in session.old) }
-    ensures value { result ≡ pos (event_said (reply_in session.old bytes.now).answer).number }
+    ensures number { result ≡ pos (event_said (reply_in session.old bytes.now).answer).number }
     ensures made_after { made.new ≡ (reply_in session.old bytes.now).made }
     ensures out_after { out.new ≡ written out.old 0 (shift_rows (reply_in session.old bytes.now)) }
-    ensures leaves { Leaves result session.old session.new (reply_in session.old bytes.now).session }
+    ensures session_after { Leaves result session.old session.new (reply_in session.old bytes.now).session }
 {
     let e = events::read(bytes);
     let s = looked(session, e);
@@ -169,7 +172,7 @@ pub fn event(
 // A buffer of events. Where the room is not there, nothing is done.
 pub fn feed(session: &mut [[[u64; 16]; 2]; 33], events: &[u8], out: &mut [i64]) -> usize
     requires { Valid (session_in session.old) }
-    ensures value { result ≡ number_in (fed (session_in session.old) (length out.old) events.now).answer }
+    ensures count { result ≡ number_in (fed (session_in session.old) (length out.old) events.now).answer }
     ensures out_after { out.new ≡ fed_into (session_in session.old) out.old events.now }
     ensures session_after { session_in session.new
         ≡ (fed (session_in session.old) (length out.old) events.now).session }
@@ -185,7 +188,7 @@ pub fn feed(session: &mut [[[u64; 16]; 2]; 33], events: &[u8], out: &mut [i64]) 
 // The closing rows. Where the room is not there, nothing is written.
 pub fn close(session: &[[[u64; 16]; 2]; 33], out: &mut [i64]) -> usize
     requires { Valid (session_in session.now) }
-    ensures value { result ≡ number_in (closed (session_in session.now) (length out.old)) }
+    ensures count { result ≡ number_in (closed (session_in session.now) (length out.old)) }
     ensures out_after { out.new ≡ closed_into (session_in session.now) out.old }
 {
     let s = host_memory::taken(session);
