@@ -1,5 +1,5 @@
--- The line that a question is about, found by a walk over the lines, and what the questions answer of it. Assumes nothing.
-use mathlib.Core.Path.{◌≡◌, refl, ap, subst}
+-- The line that a question is about, found by a walk over the lines, and what stands on it. Assumes nothing.
+use mathlib.Core.Path.{◌≡◌, refl, subst}
 use mathlib.Core.Bool.{Bool, true, false, cond, ◌||◌, false≢true}
 use mathlib.Core.List.{List, [], ◌∷◌}
 use Prim.Native.Nat.{ℕ}
@@ -8,14 +8,14 @@ use lib.Dec.{eqb}
 use lib.ListN.{get_or}
 use Rattle.method.specs.words.Types.{State, blank}
 use Rattle.method.specs.words.Ranges.{Every}
-use Rattle.method.specs.told.Questions.{listed, known, line_of, limits, placed, place, demand}
+use Rattle.method.specs.told.Questions.{listed, known, line_of, demand}
 use Rattle.method.specs.told.Report.{line_report, report}
 use Rattle.method.specs.computed.Opening.{ids}
 use Rattle.method.specs.computed.Head.{most_left}
 use Rattle.method.specs.computed.Rooms.{Room, Sane}
 use Rattle.method.proofs.Rooms.{room_fewer}
 use Rattle.method.proofs.Head.{left_within}
-use Rattle.questions.specs.Names.{Steps, Line, EventReason, LimitsAnswer, PlaceAnswer, ReportAnswer, Session}
+use Rattle.questions.specs.Names.{Line, EventReason, ReportAnswer, Session}
 use Rattle.questions.specs.declared.Sought.{Sought}
 use Rattle.corridor.specs.View.{view, Valid}
 use Rattle.questions.specs.Asked.{sought}
@@ -53,26 +53,16 @@ sought_every P id s l h e = go (known id s) refl e
 pub sought-room : (id : ℕ) (s : State) (l : Line) → Sane s → Sought.At l ≡ sought id s → Room s.left l
 sought-room id s l v e = room_fewer (left_within s) (sought_every (Room (most_left s)) id s l v.rooms e)
 
--- ---- the answers, from the line that was sought
-abbrev by_sought : {A : Type 0} → A → (Line → A) → Sought → A
-by_sought none some Sought.Nowhere = none
-by_sought none some (Sought.At l) = some l
+-- ---- all that stands on the line that was sought
+abbrev told_by : State → Sought → ReportAnswer
+told_by s Sought.Nowhere = ReportAnswer.Refused EventReason.UnknownId
+told_by s (Sought.At l) = ReportAnswer.Standing (line_report s.hold s.left s.clock l)
 
-from-sought : {A : Type 0} (none : A) (some : Line → A) (b : Bool) (l : Line) (x : Sought) → x ≡ demand b Sought.Nowhere (Sought.At l)
-    → by_sought none some x ≡ demand b none (some l)
-from-sought none some true l x e = ap (by_sought none some) e
-from-sought none some false l x e = ap (by_sought none some) e
-
-module _ (s : State) (id : ℕ) (x : Sought) (e : x ≡ sought id s) where
-  pub limits_by : by_sought (LimitsAnswer.Refused EventReason.UnknownId) (λ l. LimitsAnswer.Standing l.limits) x ≡ limits id s
-  unfolding limits sought
-  limits_by = from-sought (LimitsAnswer.Refused EventReason.UnknownId) (λ l. LimitsAnswer.Standing l.limits) (known id s) (line_of id s.lines) x e
-
-  pub place_by : (p : Steps) → by_sought (PlaceAnswer.Refused EventReason.UnknownId) (λ l. placed l.limits p) x ≡ place id p s
-  unfolding place sought
-  place_by p = from-sought (PlaceAnswer.Refused EventReason.UnknownId) (λ l. placed l.limits p) (known id s) (line_of id s.lines) x e
-
-  pub report_by : by_sought (ReportAnswer.Refused EventReason.UnknownId) (λ l. ReportAnswer.Standing (line_report s.hold s.left s.clock l)) x ≡ report id s
-  unfolding report sought
-  report_by =
-      from-sought (ReportAnswer.Refused EventReason.UnknownId) (λ l. ReportAnswer.Standing (line_report s.hold s.left s.clock l)) (known id s) (line_of id s.lines) x e
+pub report_by : (s : State) (id : ℕ) (x : Sought) → x ≡ sought id s → told_by s x ≡ report id s
+unfolding report sought
+report_by s id x e = rw e (go (known id s) (line_of id s.lines))
+  where
+    go : (b : Bool) (l : Line)
+        → told_by s (demand b Sought.Nowhere (Sought.At l)) ≡ demand b (ReportAnswer.Refused EventReason.UnknownId) (told_by s (Sought.At l))
+    go true l = refl
+    go false l = refl
