@@ -19,7 +19,7 @@ Tells memory sound broken = (Valid (session_in memory) → sound) × ((Valid (se
 
 -- For the bytes of a table, the number that `sundewcup_open` says and the memory that it leaves: every function that checks tells of this
 -- memory what it tells of a sound session where the number is 0, and where it is a refusal's what it tells of damaged memory, `damaged` or
--- `damaged_count` with everything as it was. So a refused table opens no session in the memory either. [tells-after-open]
+-- `damaged_count` with everything as it was. So a refused table opens no session in the memory either. [tells_after_open]
 abbrev pub TellsAfterOpen : Type 1
 TellsAfterOpen =
     (table : List ℕ) (number : ℤ) (memory : Memory) → number ≡ pos (table_said (opened_by table).answer).number
