@@ -1,7 +1,7 @@
 pub mod Taken
-pub mod Moved
 pub mod Tables
 pub mod Texts
 pub mod Going
 pub mod HeaderAlone
 pub mod WholeInput
+pub mod Answering

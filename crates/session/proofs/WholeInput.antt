@@ -8,7 +8,6 @@ use borrow.Author.Tests.{ltb-true}
 use lib.Dec.{ltb}
 use lib.ListN.{take, drop}
 use Rattle.method.specs.declared.Row.{Row}
-use Rattle.method.specs.declared.Row.TheVariants as Row
 use Rattle.method.specs.declared.TableAnswer.TheVariants.{Opened}
 use Rattle.method.specs.words.Types.{State}
 use Rattle.method.specs.words.Layout.{header_of, table_length}
@@ -45,7 +44,7 @@ text_still k [] = refl
 text_still k (row ∷ rows) = rw (line_still k row, text_still k rows)
 
 -- ---- what is handed to write: the text of each chunk's rows in turn, and then the closing lines
-texts_are : (s : Session) (chunks : List (List ℕ)) → all_bytes (texts s chunks) ≡ text_of (rows_in s chunks) ++ closing_text (left_in s chunks)
+pub texts_are : (s : Session) (chunks : List (List ℕ)) → all_bytes (texts s chunks) ≡ text_of (rows_in s chunks) ++ closing_text (left_in s chunks)
 unfolding rows_in left_in
 texts_are s [] = append-nil (closing_text s)
 texts_are s (c ∷ cs) =

@@ -2,12 +2,13 @@
 -- method says is written for the whole input.
 --
 -- The contracts of `answers::chunk`, `answers::closing` and `answers::refusal` name these texts, that of `reading::table_end` the end of the
--- table, and that of `events::answer_events` a session that some chunks leave. Outside of all contracts, since these cannot speak of what is read
--- and written, and to be read off the code: that `reading::fill` puts the next bytes of the input into a slice, fewer than it has only at the
--- input's end, and that `reading::table` reads so up to `table_end`; that `answer_events` goes on while a chunk is full, and `answer_all` closes
--- where the input ended; and that they and `print_refusal` hand each text to write, once and in this order.
-use Rattle.std.specs.Prelude.{◌≡◌, List, [], ◌∷◌, map, ℕ, take, drop}
-use Rattle.io.specs.Counts.{IsPrefixLen}
+-- table, and that of `chunks::answer_events` a session that some chunks leave. What is read and what is written is in the contracts too, for an
+-- input whose bytes are known: `reading::table` reads up to `table_end`, `reading::fill` the next bytes, fewer than a slice has only at the
+-- input's end; `answer_events` cuts all that follows into chunks, and `answer_whole` writes what the method says is written for the input.
+-- Outside of all contracts, since nothing is known of what the system gives and takes: that the bytes of standard input are those that its reads
+-- give, and that those which are handed to standard output come there.
+use Rattle.std.specs.Prelude.{◌≡◌, List, [], ◌∷◌, map, ℕ, ◌≤◌, length, take, drop, Option}
+use Rattle.std.specs.Io.KnownBytes.{Appends}
 use Rattle.method.specs.declared.TableAnswer.{TableAnswer}
 use Rattle.method.specs.declared.TableAnswer.TheVariants.{Opened, Refused}
 use Rattle.method.specs.declared.Row.TheVariants as Row
@@ -20,13 +21,13 @@ use Rattle.method.specs.computed.Search.{run}
 use Rattle.corridor.specs.declared.Session.{Session}
 use Rattle.corridor.specs.View.{view, opened_session}
 use Rattle.feeding.specs.Feeding.{left_by}
-use Rattle.feeding.specs.Chunks.{all_bytes, WholeButLast}
+use Rattle.feeding.specs.Chunks.{all_bytes, WholeButLast, rows_in, left_in}
 use Rattle.session.specs.Reading.{table_end}
 
 -- ---- what the functions of `answers` make
 -- a buffer whose first bytes are a text
 pub record Begins (buffer : List ℕ) (size : ℕ) (text : List ℕ) : Type 0 where
-  pub long : IsPrefixLen size buffer
+  pub long : (size ≤ length buffer) × (size ≡ length (take size buffer))
   pub same : take size buffer ≡ text
 
 abbrev pub told_text : Session → List ℕ → List ℕ
@@ -55,3 +56,28 @@ printed table chunks = texts_after (opened_session (opening table)).answer (open
 abbrev pub WholeInput : Type 0
 WholeInput = (input : List ℕ) (chunks : List (List ℕ)) → WholeButLast chunks → all_bytes chunks ≡ drop (table_end (header_of input)) input
     → Writes input (all_bytes (printed (take (table_end (header_of input)) input) chunks))
+
+-- ---- what is written for an input whose bytes are known, beside what the output held before, where that is known
+-- bytes in chunks, of which only the last may end in a cut event
+pub record CutInto (bytes : List ℕ) (chunks : List (List ℕ)) : Type 0 where
+  pub whole : WholeButLast chunks
+  pub all : all_bytes chunks ≡ bytes
+
+-- the bytes that were left, cut into some chunks: what each is answered, and the session that all leave
+pub record TellsChunks (first last : Session) (before after : Option (List ℕ)) (rest : List ℕ) : Type 0 where
+  pub chunks : List (List ℕ)
+  pub cut : CutInto rest chunks
+  pub left : last ≡ left_in first chunks
+  pub told : Appends before after (text_of (rows_in first chunks))
+
+-- the bytes that were left, cut into some chunks: the texts for these
+pub record Answers (texts_for : List (List ℕ) → List (List ℕ)) (before after : Option (List ℕ)) (rest : List ℕ) : Type 0 where
+  pub chunks : List (List ℕ)
+  pub cut : CutInto rest chunks
+  pub told : Appends before after (all_bytes (texts_for chunks))
+
+-- a whole input: what the method says is written for it
+pub record AnswersWhole (before after : Option (List ℕ)) (input : List ℕ) : Type 0 where
+  pub bytes : List ℕ
+  pub right : Writes input bytes
+  pub told : Appends before after bytes

@@ -1,10 +1,10 @@
--- How much of the input is read as the table, and how far a slice is filled.
-use Rattle.std.specs.Prelude.{cond, List, ℕ, ◌+◌, ◌*◌, ltb}
-use Rattle.io.specs.Counts.{IsPrefixLen}
+-- How much of the input is read as the table, how far a slice is filled, and with what.
+use Rattle.std.specs.Prelude.{◌≡◌, cond, List, ℕ, ◌+◌, ◌*◌, ◌<◌, ltb, length, take, Option, Result, IfSome}
+use Rattle.std.specs.Io.{ReadsAtMost}
+use Rattle.std.specs.Io.KnownBytes.{Consumes, IsAtEnd}
 use Rattle.method.specs.declared.Header.{Header}
-use Rattle.method.specs.words.Layout.{table_length}
+use Rattle.method.specs.words.Layout.{header_of, table_length}
 use Rattle.method.specs.words.Ranges.{most_contracts, most_keys}
-use Rattle.session.specs.declared.Filled.{Filled}
 
 -- a table of as many keys and contracts as there may be
 abbrev pub longest_table : ℕ
@@ -15,6 +15,16 @@ unfoldable pub table_end : Header → ℕ
 table_end h = cond (ltb longest_table (table_length h)) 40 (table_length h)
 
 -- no further than the slice goes
-abbrev pub Within : Filled → List ℕ → Type 0
-Within (Filled.To n) room = IsPrefixLen n room
-Within Filled.Failed room = Unit {0}
+abbrev pub Within : {E : Type 0} → Result ℕ E → List ℕ → Type 0
+Within r room = ReadsAtMost r room
+
+-- ---- what was read, of an input whose bytes are known (`Some` of them) before and after
+-- a slice has the input's next n bytes at its start, and is not full only where nothing is left
+pub record FilledFrom (before after : Option (List ℕ)) (n : ℕ) (room : List ℕ) : Type 0 where
+  pub taken : Consumes before after (take n room)
+  pub ended : n < length room → IsAtEnd after
+
+-- the first n bytes are the input's up to `table_end`, and what follows is left
+pub record TableFrom (before after : Option (List ℕ)) (n : ℕ) (room : List ℕ) : Type 0 where
+  pub taken : Consumes before after (take n room)
+  pub upto : IfSome before (λ input. take n room ≡ take (table_end (header_of input)) input)

@@ -1,28 +1,26 @@
 // Program "session": a table and then its events from standard input; shifts, refusals and closing lines to standard output.
 //
-// What is read and what is written no contract can say. Every text that is written is made by a function on slices, whose contract is an
-// equation; specs/Printing.antt joins them, and says what is left outside. Where a read fails, nothing more is printed, and no closing lines:
-// a failure is not the end of the input. Where a write fails, the program stops. Its exit status is 0 all the same, since the language has no
-// other; an output that ends otherwise than in a `T` line or the last closing line tells it.
+// What standard input has no contract can say. So the program is written for any input and any output, and the contract of `answer_whole` says
+// what it writes for an input whose bytes are known: what the method says is written for them. Where a read fails, nothing more is printed, and
+// no closing lines: a failure is not the end of the input. Where a write fails, the program stops. Either failure is what `main` returns, so that
+// the exit status tells it.
 
 #![tactic(auto)]
 
-ghost use Rattle.std.specs.Prelude.{◌≡◌, length};
+ghost use Rattle.std.specs.Prelude.{◌≡◌, IfSome, OnOk, length};
+ghost use Rattle.std.specs.Io.KnownBytes.{Appends};
+ghost use Rattle.method.specs.declared.Row.TheVariants as RowOf;
+ghost use Rattle.method.specs.told.Text.{line_text};
 ghost use Rattle.session.specs.Reading.{longest_table};
+ghost use Rattle.session.specs.Printing.{printed, Answers, AnswersWhole};
 
-use corridor::Session;
 use method::{TableAnswer, TableReason};
+use std::io;
+use std::io::{Read, Write};
 
 mod answers;
-mod events;
+mod chunks;
 mod reading;
-
-// What reading into a slice came to: so many bytes at its start, fewer than it has only where the input ended; or a read failed.
-#[derive(Clone, Copy)]
-pub enum Filled {
-    To(usize),
-    Failed,
-}
 
 // As long as the longest table. A function of its own keeps a buffer's elements out of the callers' goals.
 fn table_room() -> [u8; 1448]
@@ -31,30 +29,46 @@ fn table_room() -> [u8; 1448]
     [0; 1448]
 }
 
-// A refused table's line, and nothing more.
-fn print_refusal(why: TableReason, line: u32) {
-    let mut buffer = io::buffer();
-    let size = answers::refusal(why, line, &mut buffer);
-    io::write_all(1, &buffer[..size]);
+// Room for the text of one row: 20 bytes for each of its six numbers.
+fn line_room() -> [u8; 120]
+    ensures { 120 ≡ length result }
+{
+    [0; 120]
 }
 
-fn answer_input(table: &[u8]) {
+// A refused table's line, and nothing more.
+fn print_refusal<W: Write>(output: &mut W, why: TableReason, line: u32) -> io::Result<()>
+    ensures { OnOk result (Appends (W.contents output.old) (W.contents output.new)
+        (line_text (RowOf.RefusedTable why line))) }
+{
+    let mut buffer = line_room();
+    let size = answers::refusal(why, line, &mut buffer);
+    output.write_all(&buffer[..size])
+}
+
+// Opens the table, and answers what follows it.
+fn answer_input<R: Read, W: Write>(table: &[u8], input: &mut R, output: &mut W) -> io::Result<()>
+    ensures { OnOk result (IfSome (R.remaining input.old)
+        (Answers (printed table.now) (W.contents output.old) (W.contents output.new))) }
+{
     let o = corridor::open(table);
     let answer = o.answer;
     match answer {
-        TableAnswer::Refused(why, line) => print_refusal(why, line),
-        TableAnswer::Opened => {
-            let s = o.session;
-            events::answer_all(s);
-        }
+        TableAnswer::Refused(why, line) => print_refusal(output, why, line),
+        TableAnswer::Opened => chunks::answer_all(input, output, o.session),
     }
 }
 
-fn main() {
+// Answers an input from its first byte on.
+fn answer_whole<R: Read, W: Write>(input: &mut R, output: &mut W) -> io::Result<()>
+    ensures { OnOk result (IfSome (R.remaining input.old)
+        (AnswersWhole (W.contents output.old) (W.contents output.new))) }
+{
     let mut room = table_room();
-    let got = reading::table(&mut room);
-    match got {
-        Filled::To(size) => answer_input(&room[..size]),
-        Filled::Failed => {}
-    }
+    let size = reading::table(input, &mut room)?;
+    answer_input(&room[..size], input, output)
+}
+
+fn main(rt: HostRuntime) -> io::Result<()> {
+    answer_whole(&mut rt.stdin(), &mut rt.stdout())
 }
