@@ -2,53 +2,57 @@
 
 use crate::saying;
 use method::{EventReason, HoldReport, Limits, LimitsAnswer, PlaceAnswer, Report, ReportAnswer};
+use std::io;
 
 fn wide(n: u32) -> i64 {
     (n as u64) as i64
 }
 
-fn refused(words: &[u8], why: EventReason) {
-    saying::row(words, &[rows::event_number(why)]);
+fn refused(out: &impl Print, words: &str, why: EventReason) -> io::Result<()> {
+    saying::row(out, words, &[rows::event_number(why)])
 }
 
-pub(crate) fn place(words: &[u8], answer: PlaceAnswer) {
+pub(crate) fn place(out: &impl Print, words: &str, answer: PlaceAnswer) -> io::Result<()> {
     match answer {
-        PlaceAnswer::Below => saying::word(words, b"below"),
-        PlaceAnswer::Inside => saying::word(words, b"inside"),
-        PlaceAnswer::Above => saying::word(words, b"above"),
-        PlaceAnswer::Refused(why) => refused(words, why),
+        PlaceAnswer::Below => saying::word(out, words, "below"),
+        PlaceAnswer::Inside => saying::word(out, words, "inside"),
+        PlaceAnswer::Above => saying::word(out, words, "above"),
+        PlaceAnswer::Refused(why) => refused(out, words, why),
     }
 }
 
-fn standing_limits(k: Limits) {
-    saying::row(b"limits", &[k.upper.0, k.lower.0]);
+fn standing_limits(out: &impl Print, k: Limits) -> io::Result<()> {
+    saying::row(out, "limits", &[k.upper.0, k.lower.0])?;
     if k.frozen {
-        saying::heading(b"  frozen");
+        saying::heading(out, "  frozen")?;
     }
+    Ok(())
 }
 
-pub(crate) fn limits(answer: LimitsAnswer) {
+pub(crate) fn limits(out: &impl Print, answer: LimitsAnswer) -> io::Result<()> {
     match answer {
-        LimitsAnswer::Standing(k) => standing_limits(k),
-        LimitsAnswer::Refused(why) => refused(b"limits of an unknown id", why),
+        LimitsAnswer::Standing(k) => standing_limits(out, k),
+        LimitsAnswer::Refused(why) => refused(out, "limits of an unknown id", why),
     }
 }
 
 // A hold stands there only where there is one.
-fn hold(words: &[u8], h: HoldReport) {
+fn hold(out: &impl Print, words: &str, h: HoldReport) -> io::Result<()> {
     match h {
-        HoldReport::NoHold => {}
-        HoldReport::Holding(t) => saying::row(words, &[wide(t.start.0), wide(t.due.0)]),
+        HoldReport::NoHold => Ok(()),
+        HoldReport::Holding(t) => saying::row(out, words, &[wide(t.start.0), wide(t.due.0)]),
     }
 }
 
-fn bounds(r: Report) {
+fn bounds(out: &impl Print, r: Report) -> io::Result<()> {
     saying::row(
-        b"interest bounds, centre",
+        out,
+        "interest bounds, centre",
         &[r.interest.upper.0, r.interest.lower.0, r.centre.0],
-    );
+    )?;
     saying::row(
-        b"market bounds of levels 1, 2, 3",
+        out,
+        "market bounds of levels 1, 2, 3",
         &[
             r.level1.upper.0,
             r.level1.lower.0,
@@ -57,23 +61,20 @@ fn bounds(r: Report) {
             r.level3.upper.0,
             r.level3.lower.0,
         ],
-    );
+    )
 }
 
-fn standing(r: Report) {
-    let k = r.limits;
-    let up = r.up;
-    let down = r.down;
-    standing_limits(k);
-    bounds(r);
-    hold(b"up hold, start and due", up);
-    hold(b"down hold, start and due", down);
-    saying::row(b"shifts left, clock", &[wide(r.left), wide(r.clock.0)]);
+fn standing(out: &impl Print, r: Report) -> io::Result<()> {
+    standing_limits(out, r.limits)?;
+    bounds(out, r)?;
+    hold(out, "up hold, start and due", r.up)?;
+    hold(out, "down hold, start and due", r.down)?;
+    saying::row(out, "shifts left, clock", &[wide(r.left), wide(r.clock.0)])
 }
 
-pub(crate) fn report(answer: ReportAnswer) {
+pub(crate) fn report(out: &impl Print, answer: ReportAnswer) -> io::Result<()> {
     match answer {
-        ReportAnswer::Standing(r) => standing(r),
-        ReportAnswer::Refused(why) => refused(b"report of an unknown id", why),
+        ReportAnswer::Standing(r) => standing(out, r),
+        ReportAnswer::Refused(why) => refused(out, "report of an unknown id", why),
     }
 }

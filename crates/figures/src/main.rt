@@ -3,15 +3,18 @@
 
 #![tactic(auto)]
 
-ghost use Rattle.std.specs.Prelude.{◌≡◌, length};
+ghost use Rattle.std.specs.Prelude.{◌≡◌, IfOk, length};
 ghost use Rattle.corridor.specs.View.{Valid};
 
 use corridor::Session;
 use method::TableAnswer;
 use numbers::Steps;
+use std::io;
+use std::io::Read;
 
 mod answers;
 mod rates;
+mod reading;
 mod saying;
 
 // Three keys and ten contracts.
@@ -28,141 +31,153 @@ fn event_room() -> [u8; 20]
 }
 
 // The session after the next event.
-fn after(s: Session) -> Session
+fn after<R: Read>(input: &mut R, s: Session) -> io::Result<Session>
     requires { Valid s }
-    ensures { Valid result }
+    ensures { IfOk result (λ next. Valid next) }
 {
     let mut room = event_room();
-    let size = io::read_full(0, &mut room);
+    let size = reading::fill(input, &mut room)?;
     let r = s.event(&room[..size]);
-    let next = r.session;
-    next
+    Ok(r.session)
 }
 
-fn told(words: &[u8], s: Session, id: u32)
+fn told(out: &impl Print, words: &str, s: Session, id: u32) -> io::Result<()>
     requires { Valid s }
 {
-    saying::heading(words);
-    answers::report(questions::report(s, id));
+    saying::heading(out, words)?;
+    answers::report(out, questions::report(s, id))
 }
 
-fn opening(s: Session)
+fn opening(out: &impl Print, s: Session) -> io::Result<()>
     requires { Valid s }
 {
-    told(b"Spot -2,001, rates 100,000, 100,001, 300,000", s, 4);
-    told(b"The same with least price 5,000", s, 5);
+    told(out, "Spot -2,001, rates 100,000, 100,001, 300,000", s, 4)?;
+    told(out, "The same with least price 5,000", s, 5)?;
     told(
-        b"P 1,000, half-width 100, y 100,000,000, width share 500,000",
+        out,
+        "P 1,000, half-width 100, y 100,000,000, width share 500,000",
         s,
         1,
-    );
+    )?;
     told(
-        b"P -10, half-width 100, same y, negatives permitted, share 500,000",
+        out,
+        "P -10, half-width 100, same y, negatives permitted, share 500,000",
         s,
         2,
-    );
-    told(b"P 30, half-width 30, y 0, width share 900,000", s, 3);
+    )?;
+    told(out, "P 30, half-width 30, y 0, width share 900,000", s, 3)
 }
 
-fn floors(s: Session)
+fn floors(out: &impl Print, s: Session) -> io::Result<()>
     requires { Valid s }
 {
-    told(b"A lower limit of -17 becomes 1", s, 6);
-    told(b"A lower limit of exactly 1", s, 8);
-    told(b"-17 with negatives permitted", s, 9);
-    told(b"Width share 0", s, 10);
+    told(out, "A lower limit of -17 becomes 1", s, 6)?;
+    told(out, "A lower limit of exactly 1", s, 8)?;
+    told(out, "-17 with negatives permitted", s, 9)?;
+    told(out, "Width share 0", s, 10)
 }
 
 // No answer has the half-move: it is read off the line of P 30.
-fn half_move(s: Session)
+fn half_move(out: &impl Print, s: Session) -> io::Result<()>
     requires { Valid s }
 {
     let l = s.lines[2];
-    saying::row(b"half-move at shift share 500,000", &[l.terms.halfmove.0]);
+    saying::row(
+        out,
+        "half-move at shift share 500,000",
+        &[l.terms.halfmove.0],
+    )
 }
 
-fn questions(s: Session)
+fn questions(out: &impl Print, s: Session) -> io::Result<()>
     requires { Valid s }
 {
     saying::heading(
-        b"Questions of the sample: both limits count as inside, and an unknown id is 13",
-    );
-    answers::limits(questions::limits(s, 7));
-    answers::place(b"949", questions::place(s, 7, Steps(949)));
-    answers::place(b"950", questions::place(s, 7, Steps(950)));
-    answers::place(b"1050", questions::place(s, 7, Steps(1050)));
-    answers::place(b"1051", questions::place(s, 7, Steps(1051)));
-    answers::limits(questions::limits(s, 11));
+        out,
+        "Questions of the sample: both limits count as inside, and an unknown id is 13",
+    )?;
+    answers::limits(out, questions::limits(s, 7))?;
+    answers::place(out, "949", questions::place(s, 7, Steps(949)))?;
+    answers::place(out, "950", questions::place(s, 7, Steps(950)))?;
+    answers::place(out, "1050", questions::place(s, 7, Steps(1050)))?;
+    answers::place(out, "1051", questions::place(s, 7, Steps(1051)))?;
+    answers::limits(out, questions::limits(s, 11))?;
     answers::place(
-        b"1000 of an unknown id",
+        out,
+        "1000 of an unknown id",
         questions::place(s, 11, Steps(1000)),
-    );
-    answers::report(questions::report(s, 11));
+    )?;
+    answers::report(out, questions::report(s, 11))
 }
 
 // The session after the quotes.
-fn quotes(s: Session) -> Session
+fn quotes<R: Read>(out: &impl Print, input: &mut R, s: Session) -> io::Result<Session>
     requires { Valid s }
-    ensures { Valid result }
+    ensures { IfOk result (λ next. Valid next) }
 {
-    let near = after(after(s));
-    told(b"A bid of 1045 at 10 wouldn't press", near, 7);
-    let pressed = after(near);
-    told(b"A bid of 1046 presses", pressed, 7);
-    pressed
+    let first = after(input, s)?;
+    let near = after(input, first)?;
+    told(out, "A bid of 1045 at 10 wouldn't press", near, 7)?;
+    let pressed = after(input, near)?;
+    told(out, "A bid of 1046 presses", pressed, 7)?;
+    Ok(pressed)
 }
 
-fn down_shift(s: Session) -> Session
+fn down_shift<R: Read>(out: &impl Print, input: &mut R, s: Session) -> io::Result<Session>
     requires { Valid s }
-    ensures { Valid result }
+    ensures { IfOk result (λ next. Valid next) }
 {
-    let down = after(s);
-    told(b"P 30 after one down shift", down, 3);
+    let down = after(input, s)?;
+    told(out, "P 30 after one down shift", down, 3)?;
     told(
-        b"The sample too: a shift acts on all lines, and the other side's hold goes on",
+        out,
+        "The sample too: a shift acts on all lines, and the other side's hold goes on",
         down,
         7,
-    );
-    down
+    )?;
+    Ok(down)
 }
 
-fn up_shift(s: Session)
+fn up_shift<R: Read>(out: &impl Print, input: &mut R, s: Session) -> io::Result<()>
     requires { Valid s }
 {
-    let up = after(s);
+    let up = after(input, s)?;
     told(
-        b"The sample after an up shift: no hold exists any more",
+        out,
+        "The sample after an up shift: no hold exists any more",
         up,
         7,
-    );
+    )?;
+    let at_end = after(input, up)?;
+    let late = after(input, at_end)?;
     told(
-        b"Event at session end: accepted. One second later: 10",
-        after(after(up)),
+        out,
+        "Event at session end: accepted. One second later: 10",
+        late,
         7,
-    );
+    )
 }
 
-fn lines(s: Session)
+fn lines<R: Read>(out: &impl Print, input: &mut R, s: Session) -> io::Result<()>
     requires { Valid s }
 {
-    opening(s);
-    half_move(s);
-    floors(s);
-    questions(s);
-    up_shift(down_shift(quotes(s)));
+    opening(out, s)?;
+    half_move(out, s)?;
+    floors(out, s)?;
+    questions(out, s)?;
+    let pressed = quotes(out, input, s)?;
+    let down = down_shift(out, input, pressed)?;
+    up_shift(out, input, down)
 }
 
-fn main() {
-    rates::say();
+fn main(rt: HostRuntime) -> io::Result<()> {
+    rates::say(&rt)?;
+    let mut input = rt.stdin();
     let mut room = table_room();
-    let size = io::read_full(0, &mut room);
+    let size = reading::fill(&mut input, &mut room)?;
     let o = corridor::open(&room[..size]);
-    let answer = o.answer;
-    match answer {
-        TableAnswer::Refused(_, _) => saying::heading(b"The table is refused"),
-        TableAnswer::Opened => {
-            let s = o.session;
-            lines(s);
-        }
+    match o.answer {
+        TableAnswer::Refused(_, _) => saying::heading(&rt, "The table is refused"),
+        TableAnswer::Opened => lines(&rt, &mut input, o.session),
     }
 }

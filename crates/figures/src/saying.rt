@@ -1,51 +1,43 @@
 // A figure as a line of text: what it is, and then its numbers.
 
+use std::io;
+
 // Above the figures that belong to it.
-pub(crate) fn heading(words: &[u8]) {
-    io::write_all(1, words);
-    end_line();
+pub(crate) fn heading(out: &impl Print, words: &str) -> io::Result<()> {
+    println!(out; "{words}")
 }
 
-pub(crate) fn label(words: &[u8]) {
-    io::write_all(1, b"  ");
-    io::write_all(1, words);
-    io::write_all(1, b":");
+pub(crate) fn label(out: &impl Print, words: &str) -> io::Result<()> {
+    print!(out; "  {words}:")
 }
 
-pub(crate) fn number(n: i64) {
-    io::write_all(1, b" ");
-    if n < 0 {
-        io::write_all(1, b"-");
-    }
-    io::print_decimal(1, text::magnitude(n));
+pub(crate) fn number(out: &impl Print, n: i64) -> io::Result<()> {
+    print!(out; " {n}")
 }
 
-fn end_line() {
-    io::write_all(1, b"\n");
+fn end_line(out: &impl Print) -> io::Result<()> {
+    println!(out; "")
 }
 
 // A whole line of numbers.
-pub(crate) fn row(words: &[u8], numbers: &[i64]) {
-    label(words);
-    let mut i: usize = 0;
-    while i < numbers.len() {
-        number(numbers[i]);
-        i = i + 1;
+pub(crate) fn row(out: &impl Print, words: &str, numbers: &[i64]) -> io::Result<()> {
+    label(out, words)?;
+    for n in numbers {
+        number(out, *n)?;
     }
-    end_line();
+    end_line(out)
 }
 
 // A line of one number, as factors and exponents are.
-pub(crate) fn count(words: &[u8], n: u64) {
-    label(words);
-    io::write_all(1, b" ");
-    io::print_decimal(1, n);
-    end_line();
+pub(crate) fn count(out: &impl Print, words: &str, n: u64) -> io::Result<()> {
+    label(out, words)?;
+    print!(out; " {n}")?;
+    end_line(out)
 }
 
 // A line of a word.
-pub(crate) fn word(words: &[u8], said: &[u8]) {
-    label(words);
-    io::write_all(1, b" ");
-    heading(said);
+pub(crate) fn word(out: &impl Print, words: &str, said: &str) -> io::Result<()> {
+    label(out, words)?;
+    print!(out; " ")?;
+    heading(out, said)
 }
