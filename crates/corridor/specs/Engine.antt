@@ -31,11 +31,11 @@ unfoldable pub left_after : Session → List (List ℕ) → Session
 left_after s [] = s
 left_after s (b ∷ bs) = left_after (reply_to s b).session bs
 
--- The session of an accepted table shows the state in which the method opens it. [opens-as]
+-- The session of an accepted table shows the state in which the method opens it. [opens_as]
 abbrev pub OpensAs : Type 0
 OpensAs = (table : List ℕ) (o : State) → TableAnswered table (opened o) → view (opened_session (opening table)).session ≡ o
 
--- A valid session, wherever it comes from, shows a proper state, so that rule 2 holds of it (`rule2_kept`). [valid-proper]
+-- A valid session, wherever it comes from, shows a proper state, so that rule 2 holds of it (`rule2_kept`). [valid_proper]
 abbrev pub ValidProper : Type 0
 ValidProper = (s : Session) → Valid s → Proper (view s)
 
@@ -45,7 +45,7 @@ pub record RunFrom (s : Session) (bs : List (List ℕ)) : Type 0 where
   pub session : left_after s bs ≡ put s (finally (view s) bs)
 
 -- From any valid session, wherever it comes from, the answers to any byte strings are those that the method finds from the state that the
--- session shows, and the session left is the first one with the method's last state in it. [engine-runs]
+-- session shows, and the session left is the first one with the method's last state in it. [engine_runs]
 abbrev pub EngineRuns : Type 0
 EngineRuns = (s : Session) (bs : List (List ℕ)) → Valid s → RunFrom s bs
 
@@ -54,6 +54,6 @@ pub record RightFrom (s : Session) (bs : List (List ℕ)) : Type 0 where
   pub answers : AnswersInWords (view s) bs (one_by_one s bs) (view (left_after s bs))
   pub valid : Valid (left_after s bs)
 
--- From any valid session, an accepted table's or a snapshot's, and for any byte strings. [engine-is-right]
+-- From any valid session, an accepted table's or a snapshot's, and for any byte strings. [engine_is_right]
 abbrev pub EngineIsRight : Type 0
 EngineIsRight = (s : Session) (bs : List (List ℕ)) → Valid s → RightFrom s bs

@@ -17,11 +17,11 @@ use Rattle.corridor.specs.Engine.{reply_to}
 abbrev pub opened_by : List ℕ → OpenReply
 opened_by b = opened_session (opening b)
 
--- The session of a table that `open` accepts is valid, so that every function of a session takes it. [valid-open]
+-- The session of a table that `open` accepts is valid, so that every function of a session takes it. [valid_open]
 abbrev pub OpenValid : Type 0
 OpenValid = (b : List ℕ) → (opened_by b).answer ≡ TableAnswer.Opened → Valid (opened_by b).session
 
--- What stands beside a refusal is not: no function takes it. [refused-opens-none]
+-- What stands beside a refusal is not: no function takes it. [refused_opens_none]
 abbrev pub RefusedOpensNone : Type 0
 RefusedOpensNone =
     (b : List ℕ) (why : TableReason) (line : ℕ) → (opened_by b).answer ≡ TableAnswer.Refused why line → Valid (opened_by b).session → ⊥
@@ -30,13 +30,13 @@ RefusedOpensNone =
 abbrev pub EventValid : Type 0
 EventValid = (s : Session) (b : List ℕ) → Valid s → Valid (reply_to s b).session
 
--- A table that the method refuses is answered with the refusal's number, the line at fault, and the place of the field that it names. [open-says]
+-- A table that the method refuses is answered with the refusal's number, the line at fault, and the place of the field that it names. [open_says]
 abbrev pub OpenSays : Type 0
 OpenSays =
     (b : List ℕ) (why : TableReason) (line : ℕ) → opening b ≡ Opening.refused why line
     → table_said (opened_by b).answer ≡ record { number = table_number why; values = pos line ∷ pos (field_number why) ∷ [] }
 
--- An event that the method refuses is answered with the refusal's number. [event-says]
+-- An event that the method refuses is answered with the refusal's number. [event_says]
 abbrev pub EventSays : Type 0
 EventSays =
     (s : Session) (b : List ℕ) (why : EventReason) → answer (view s) (read b) ≡ refused why

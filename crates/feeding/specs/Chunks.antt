@@ -70,6 +70,6 @@ pub record FedOn (s : Session) (xs ys : List ℕ) : Type 0 where
       → fed_into s out (xs ++ ys) ≡ written (fed_into s out xs) (length (told s xs)) (numbers_of (behind xs (rows_for (left_by s xs) ys)))
 
 -- From any valid session, for whole events xs and any bytes ys: feeding xs and then ys leaves the same session as feeding both at once, and
--- tells the same numbers in the same places, once the rows of ys are raised by the events of xs. [feed-on, in proofs/Chunks]
+-- tells the same numbers in the same places, once the rows of ys are raised by the events of xs. [feed_on, in proofs/Chunks]
 abbrev pub FeedOn : Type 0
 FeedOn = (s : Session) (xs ys : List ℕ) (k : ℕ) → length xs ≡ 20 * k → Valid s → FedOn s xs ys

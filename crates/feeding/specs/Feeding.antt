@@ -40,12 +40,12 @@ fed_into s out b = cond (ltb (length out) (feed_needs (length b))) out (written 
 abbrev pub ToldFits : Type 0
 ToldFits = (s : Session) (b : List ℕ) → Valid s → length (told s b) ≤ feed_needs (length b)
 
--- From a valid session `feed` hands back a valid one, whatever buffer is lent, and where its room is too little too. [valid-feed, in
+-- From a valid session `feed` hands back a valid one, whatever buffer is lent, and where its room is too little too. [valid_feed, in
 -- proofs/Chunks]
 abbrev pub FeedValid : Type 0
 FeedValid = (s : Session) (size : ℕ) (b : List ℕ) → Valid s → Valid (fed s size b).session
 
--- Handing a buffer to `event` piece by piece is feeding it: the same numbers, and the same session. [feeding-is-the-same, in
+-- Handing a buffer to `event` piece by piece is feeding it: the same numbers, and the same session. [feeding_is_the_same, in
 -- proofs/Chunks]
 abbrev pub FeedingIsTheSame : Type 0
 FeedingIsTheSame =

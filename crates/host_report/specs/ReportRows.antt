@@ -71,6 +71,6 @@ said_in rows =
     ++ marked (take 2 (drop 2 book))
     ++ drop 4 book
 
--- Of any report the four rows tell the values of `report_said`, in its order, and nothing else. [report-as-said]
+-- Of any report the four rows tell the values of `report_said`, in its order, and nothing else. [report_as_said]
 abbrev pub ReportAsSaid : Type 0
 ReportAsSaid = (r : Report) → said_in (report_rows r) ≡ (report_said (Standing r)).values

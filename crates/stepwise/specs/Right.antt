@@ -27,7 +27,7 @@ pub record Rightly (o : State) (bs : List (List ℕ)) (rs : List Answer) (out : 
   pub shifted : Each (Shifted (count Up (joined rs)) (count Down (joined rs))) o.lines (view r.session).lines
 
 -- For any bytes that `open` accepts, any bytes of events and any buffer with the room: what meets the contract is right, with the answers
--- that `event` gives to the pieces one by one. [stepwise-is-right]
+-- that `event` gives to the pieces one by one. [stepwise_is_right]
 abbrev pub StepwiseIsRight : Type 0
 StepwiseIsRight =
     (table : List ℕ) (o : State) → TableAnswered table (opened o) → (b : List ℕ) (out : List ℤ) → feed_needs (length b) ≤ length out

@@ -39,7 +39,7 @@ exact_sum y (suc k) = exact_sum y k + exact_term y (suc k)
 abbrev pub exact : ℕ → ℕ
 exact y = exact_sum y 12
 
--- ---- Both factors lie on the outer side of the exact ones, and not far. At 0 they are exact. [factors-on-outer-side]
+-- ---- Both factors lie on the outer side of the exact ones, and not far. At 0 they are exact. [factors_on_outer_side]
 pub record OnOuterSide (y : ℕ) : Type 0 where
   pub up_never_below : exact y ≤ up_factor y * billionth
   pub up_at_most_20_above : up_factor y * billionth ≤ exact y + 20 * billionth
@@ -58,7 +58,7 @@ Covers y Up (negsuc n) b = (negsuc n *ℤ pos one) ≤ℤ (b *ℤ pos (exact y))
 Covers y Down (pos n) b = (b *ℤ pos (exact y)) ≤ℤ (pos n *ℤ pos one)
 Covers y Down (negsuc n) b = (b *ℤ pos one) ≤ℤ (negsuc n *ℤ pos (exact y))
 
--- So no interest bound that is drawn with our factors is too narrow. [never-too-narrow]
+-- So no interest bound that is drawn with our factors is too narrow. [never_too_narrow]
 abbrev pub NeverTooNarrow : Type 0
 NeverTooNarrow = (y : ℕ) → y ≤ most_exponent → (side : Side) (z : ℤ) → Covers y side z (outward side (factors_of y) z)
 
@@ -66,7 +66,7 @@ NeverTooNarrow = (y : ℕ) → y ≤ most_exponent → (side : Side) (z : ℤ) �
 abbrev pub Covered : ℕ → Line → Type 0
 Covered y l = (side : Side) → Covers y side (market_bound side l.market.centre l.market.half1) (bound side l.terms.factors l.market)
 
--- at any moment of a session from an accepted table, contract by contract of it. [bounds-covered]
+-- at any moment of a session from an accepted table, contract by contract of it. [bounds_covered]
 abbrev pub BoundsCovered : Type 0
 BoundsCovered =
     (o s : State) (cs : List ShiftLine) (opens : Opens o) → Moment o cs s

@@ -25,7 +25,7 @@ ShiftsLead =
 abbrev pub FrozenTells : Type 0
 FrozenTells = EachLine (λ u d o l. (l.limits.frozen ≡ true) ↔ FloorMet o l)
 
--- What is frozen at a moment is so at any later one, at one step. (rule3_frozen_for_good, of what a host has kept frozen-for-good)
+-- What is frozen at a moment is so at any later one, at one step. (rule3_frozen_for_good, of what a host has kept frozen_for_good)
 abbrev pub FrozenForGood : (State → Type 0) → Type 0
 FrozenForGood From =
     (o s r : State) (cs ds : List ShiftLine) → From o → Moment o cs s → Moment s ds r

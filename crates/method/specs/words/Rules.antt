@@ -45,23 +45,23 @@ pub data Moment (o : State) : List ShiftLine → State → Type 0 where
 
 -- ==== RULE 1
 -- Every list of bytes opens a state or is refused with a number and a line: exactly one of the answers of `TableAnswered`. Which lines an accepted
--- table opens is said in its clause `all_good`. (METHOD 24.1, 24.6; rule1-every-table)
+-- table opens is said in its clause `all_good`. (METHOD 24.1, 24.6; rule1_every_table)
 abbrev pub EveryTable : Type 0
 EveryTable = (b : List ℕ) → ExactlyOne (TableAnswered b)
 
 -- Every byte string, in every state, is accepted or refused with a number: exactly one of the answers of `EventAnswered`. Which shift lines and
--- which state follow is rule 2. (METHOD 24.2; rule1-every-event)
+-- which state follow is rule 2. (METHOD 24.2; rule1_every_event)
 abbrev pub EveryEvent : Type 0
 EveryEvent = (s : State) (b : List ℕ) → ExactlyOne (EventAnswered s b)
 
--- No refused table opens a state. (METHOD 24.3; rule1-refused-table)
+-- No refused table opens a state. (METHOD 24.3; rule1_refused_table)
 abbrev pub RefusedOpensNothing : Type 0
 RefusedOpensNothing = (b : List ℕ) (why : TableReason) (line : ℕ) → TableAnswered b (refused why line) → (s : State) → TableAnswered b (opened s) → ⊥
 
 -- An event that is refused for `why` in the state m that the byte strings `past` leave can be struck out of any list: it is answered with its
 -- refusal, hence with no shift line, and all other answers and the state, its clock included, are those without it. That no input bytes are
 -- written needs no statement here, where a byte string is a value; the code takes its input to read only.
--- (METHOD 24.4, 24.5; rule1-refused-event)
+-- (METHOD 24.4, 24.5; rule1_refused_event)
 abbrev pub RefusedChangesNothing : Type 0
 RefusedChangesNothing =
     (o : State) (past : List (List ℕ)) (told : List Answer) (m : State) (b : List ℕ) (why : EventReason) → AnswersInWords o past told m
