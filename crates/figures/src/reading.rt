@@ -1,4 +1,4 @@
-// Reading the input into a room that a table or an event has.
+// Reading the input into the room that a table or an event has.
 
 ghost use Rattle.std.specs.Io.{ReadsAtMost};
 

@@ -4,9 +4,10 @@
 -- The contracts of `answers::chunk`, `answers::closing` and `answers::refusal` name these texts, that of `reading::table_end` the end of the
 -- table, and that of `chunks::answer_events` a session that some chunks leave. What is read and what is written is in the contracts too, for an
 -- input whose bytes are known: `reading::table` reads up to `table_end`, `reading::fill` the next bytes, fewer than a slice has only at the
--- input's end; `answer_events` cuts all that follows into chunks, and `answer_whole` writes what the method says is written for the input.
--- Outside of all contracts, since nothing is known of what the system gives and takes: that the bytes of standard input are those that its reads
--- give, and that those which are handed to standard output come there.
+-- input's end; `answer_events` cuts all that follows into chunks, and where `answer_whole` answers `Ok` it wrote what the method says is written
+-- for the input. Outside of all contracts, and to be read off the code: that an error comes of a failed read or write alone (or after 2^64 - 1
+-- chunks), and nothing is written after it; that a chunk's answers are written before the next chunk is read; and that `main` hands over standard
+-- input and output, of which nothing is known but what their reads and writes tell, and drops the error.
 use Rattle.std.specs.Prelude.{◌≡◌, List, [], ◌∷◌, map, ℕ, ◌≤◌, length, take, drop, Option}
 use Rattle.std.specs.Io.KnownBytes.{Appends}
 use Rattle.method.specs.declared.TableAnswer.{TableAnswer}

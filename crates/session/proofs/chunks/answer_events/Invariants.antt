@@ -1,4 +1,4 @@
--- Chunks of whole events were read and answered, and the buffers are as long as before.
+-- Chunks of whole events were read and answered.
 use Rattle.session.proofs.Going.{Going}
 use Rattle.session.proofs.chunks.answer_events.Given as goal
 
