@@ -27,3 +27,6 @@ module _ {f : Factors} {m : Market} (d : Drawn f m) where
   pub drawn_within : (side : Side) → Within largest_bound (bound side f m)
   unfolding bound outward
   drawn_within side = outward_within side d.factors (drawn-bound side)
+
+-- what a bound's parts are asked
+pub ruleset drawn = (drawn-factor, drawn-bound)

@@ -31,18 +31,10 @@ fn factor(side: Side, f: Factors, z: Steps) -> Billionths
     ensures { result.0 ≡ factor side f z.0 }
 {
     match side {
-        Side::Up => {
-            if z.0 < 0 {
-                return f.down;
-            }
-            f.up
-        }
-        Side::Down => {
-            if 0 <= z.0 {
-                return f.down;
-            }
-            f.up
-        }
+        Side::Up if z.0 < 0 => f.down,
+        Side::Up => f.up,
+        Side::Down if 0 <= z.0 => f.down,
+        Side::Down => f.up,
     }
 }
 
@@ -52,17 +44,15 @@ fn interest(side: Side, k: Billionths, z: Steps) -> Steps
     requires { (k.0 ≤ largest_factor) × Within largest_market_bound z.0 }
     ensures { result.0 ≡ interest side k.0 z.0 }
 {
-    let product = z.0 * (k.0 as i64);
-    rounding::rounded(side, product, 1000000000)
+    rounding::rounded(side, z.0 * k.0 as i64, 1_000_000_000)
 }
 
 // The interest bound of a side.
+#[tactic(auto, using(crate::proofs::Drawing::drawn), unfolding(method::specs::words::Bounds::outward, method::specs::words::Bounds::bound))]
 pub fn bound(side: Side, f: Factors, m: Market) -> Steps
     requires { Drawn f m }
     ensures { result.0 ≡ bound side f m }
 {
-    let centre = m.centre;
-    let half = m.half1;
-    let z = market_bound(side, centre, half);
+    let z = market_bound(side, m.centre, m.half1);
     interest(side, factor(side, f, z), z)
 }

@@ -11,15 +11,13 @@ use numbers::Steps;
 pub fn floored(permitted: bool, k: Limits) -> Limits
     ensures { result ≡ floored permitted k }
 {
-    if permitted {
-        return k;
-    }
-    if k.lower.0 < 1 {
-        return Limits {
+    if !permitted && k.lower.0 < 1 {
+        Limits {
             lower: Steps(1),
             frozen: true,
             ..k
-        };
+        }
+    } else {
+        k
     }
-    k
 }
