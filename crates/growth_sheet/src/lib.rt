@@ -13,8 +13,7 @@ use numbers::Billionths;
 pub const THOUSANDTH: u64 = 1_000_000;
 
 // In billionths, with `_` where the print has its point. The layout of sources asks for one a line; specs/Sheet.antt has them ten a line, as printed.
-// 32 bits an entry, since the array is laid on the stack at every reading (DECISIONS F19).
-const SHEET: [u32; 501] = [
+static SHEET: [u64; 501] = [
     // 0
     1_000000000,
     1_001000520,
@@ -570,9 +569,10 @@ const SHEET: [u32; 501] = [
 ];
 
 // The up factor at an exponent of so many thousandths.
+#[tactic(auto, using(crate::proofs::Sheet::on_sheet), unfolding(crate::specs::Sheet::sheet))]
 pub fn up_factor(thousandths: usize) -> Billionths
     requires { thousandths * a_thousandth ≤ most_exponent }
     ensures { result.0 ≡ up_factor (thousandths * a_thousandth) }
 {
-    Billionths(SHEET[thousandths] as u64)
+    Billionths(SHEET[thousandths])
 }
