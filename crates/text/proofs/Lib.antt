@@ -1,4 +1,5 @@
-pub mod Signs
 pub mod Digits
+pub mod Signs
+pub mod Telling
 pub mod Putting
 pub mod Rows

@@ -1,13 +1,14 @@
 -- Rows in numbers have the lines that the method gives them. Assumes nothing.
 use mathlib.Core.Path.{◌≡◌, refl, sym, ap, ◌∙◌}
 use mathlib.Core.List.{List, [], ◌∷◌, ◌++◌, append_assoc, append-nil}
-use Prim.Native.Nat.{ℕ, zero, suc, ◌+◌, ◌*◌, ◌/◌, ◌<◌, ◌≤◌}
+use Prim.Native.Nat.{ℕ, zero, suc, ◌+◌, ◌*◌, ◌/◌, ◌<◌}
 use native.Mathlib.Numerals.{add-one}
 use native.Mathlib.Omega.{arith}
 use borrow.Author.Tests.{ne_eqb}
 use lib.IntN.{ℤ, pos}
 use lib.ListN.{length, get_or, take, drop}
-use lib.Seq.{drop-cons, take_at, drop_at, drop-drop}
+use Rattle.std.specs.Simd.{first_chunks}
+use lib.Seq.{take_at, drop_at, drop-drop}
 use Rattle.method.specs.declared.Side.{Side}
 use Rattle.method.specs.declared.Side.TheVariants.{Up, Down}
 use Rattle.method.specs.declared.Row.{Row}
@@ -35,27 +36,13 @@ line-is (Row.RefusedTable why line) = field_is (table_number why) line (field_nu
 line-is (Row.Closed c) = refl
 
 -- ---- many rows
-next : (numbers : List ℤ) (i j n : ℕ) → j ≡ suc i → i < length numbers → take (suc n) (drop i numbers) ≡ get_or numbers i (pos 0) ∷ take n (drop j numbers)
-next numbers i j n e h = rw (drop-cons numbers i (pos 0) h, e)
-
-pub six_at : (numbers : List ℤ) (from : ℕ) → from + 6 ≤ length numbers
-    → get_or numbers from (pos 0)
-    ∷ get_or numbers (from + 1) (pos 0)
-    ∷ get_or numbers (from + 2) (pos 0)
-    ∷ get_or numbers (from + 3) (pos 0)
-    ∷ get_or numbers (from + 4) (pos 0)
-    ∷ get_or numbers (from + 5) (pos 0)
-    ∷ []
-    ≡ take 6 (drop from numbers)
-six_at numbers from h =
-    rw (
-      next numbers from (from + 1) 5 (omega arith) (omega arith),
-      next numbers (from + 1) (from + 2) 4 (omega arith) (omega arith),
-      next numbers (from + 2) (from + 3) 3 (omega arith) (omega arith),
-      next numbers (from + 3) (from + 4) 2 (omega arith) (omega arith),
-      next numbers (from + 4) (from + 5) 1 (omega arith) (omega arith),
-      next numbers (from + 5) (from + 6) 0 (omega arith) (omega arith),
-    )
+-- the rows one after another
+pub row_at : (k i : ℕ) (numbers : List ℤ) (d : List ℤ) → i < k → get_or (first_chunks 6 k numbers) i d ≡ take 6 (drop (6 * i) numbers)
+row_at zero i numbers d h = elim h [ ]
+row_at (suc k) zero numbers d h = refl
+row_at (suc k) (suc i) numbers d h =
+    let further : 6 + 6 * i ≡ 6 * suc i = omega arith in
+    row_at k i (drop 6 numbers) d (omega arith) ∙ ap (take 6) (drop-drop (6 * i) 6 numbers ∙ ap (λ (n : ℕ). drop n numbers) further)
 
 pub lines_on : (i : ℕ) (numbers : List ℤ) {row : List ℤ} → row ≡ take 6 (drop (6 * i) numbers)
     → lines_text i numbers ++ numbers_text row ≡ lines_text (i + 1) numbers

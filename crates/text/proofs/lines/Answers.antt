@@ -1,17 +1,20 @@
 -- One line more stands in the buffer.
-use Rattle.std.proofs.Common.{arith}
+use Rattle.std.proofs.Common.{List, [], ℤ, length, get_or, ◌/◌, ◌≤◌, ap, ◌∙◌, arith}
 use Rattle.text.specs.Line.{lines_text}
 use Rattle.text.proofs.Putting.{put-none, put_on, put_as}
-use Rattle.text.proofs.Rows.{lines_on}
+use Rattle.text.proofs.Rows.{row_at, lines_on}
 use Rattle.text.proofs.lines.Goals as goal
 
-pub loop-i-init : goal.loop-i-init
+pub loop-row-init : goal.loop-row-init
 unfolding lines_text
-loop-i-init c = (omega arith, omega arith, put-none c.args.buffer.now 0)
+loop-row-init c = (omega arith, put-none c.args.buffer.now 0)
 
-pub loop-i-preserved : goal.loop-i-preserved
-loop-i-preserved c = (
-  omega arith,
-  omega arith,
-  put_as (lines_on c.loop-i.i c.args.numbers.now c.row_at.ensures) (put_on c.loop-i.invariant.2 (omega arith) c.line-at.ensures.put),
-)
+pub loop-row-preserved : goal.loop-row-preserved
+loop-row-preserved c =
+    let i = c.loop-row.row-index in
+    let numbers = c.args.numbers.now in
+    let row =
+    ap (λ (rows : List (List ℤ)). get_or rows i []) c.as_chunks.ensures.front
+    ∙ row_at (length numbers / 6) i numbers [] (omega (arith, c.as_chunks.ensures.front_len)) in
+    let room : c.loop-row.at ≤ length c.args.buffer.now = omega (arith, c.as_chunks.ensures.front_len) in
+    (omega arith, put_as (lines_on i numbers row) (put_on c.loop-row.invariant.1 room c.line-at.ensures.put))

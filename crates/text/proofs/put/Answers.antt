@@ -1,12 +1,12 @@
--- The sign, the digits and the byte after them stand in the buffer one after another.
-use Rattle.std.proofs.Common.{List, [], ◌∷◌, ◌++◌, ℕ, ap, ◌∙◌, rules, arith}
+-- The library's decimals are the method's.
+use Rattle.std.proofs.Common.{List, ℕ, ◌++◌, ap, ◌∙◌, append_assoc}
+use Rattle.std.specs.Fmt.{signed_decimal}
 use Rattle.method.specs.told.Text.{signed_text}
-use Rattle.text.proofs.Putting.{put_byte, put_on, put_as, put-decimal, signed_is, read_back}
+use Rattle.text.proofs.Digits.{signed-is}
+use Rattle.text.proofs.Putting.{read_back}
 use Rattle.text.proofs.put.Goals as goal
 
-pub returns-clause-put : goal.returns-clause-put
-returns-clause-put c =
-    let made = c.as_bytes-digits.ensures.value ∙ c.format.ensures.text in
-    let digits = put-decimal _ _ _ c.magnitude.ensures c.magnitude.type_inv made c.put_digits.ensures in
-    let all = put_on (put_on c.put_sign-start.ensures.put (omega arith) digits) (omega arith) (put_byte _ _ c.args.after (omega arith)) in
-    put_as (ap (λ (t : List ℕ). t ++ (c.args.after ∷ [])) (signed_is _ ∙ ap signed_text (read_back c.args.n (search rules)))) all
+pub returns-clause-text : goal.returns-clause-text
+returns-clause-text c =
+    let digits = c.push_str.ensures.bytes ∙ ap (λ (t : List ℕ). c.args.line.now.bytes ++ t) (c.format.ensures.text ∙ ap signed_decimal (read_back c.args.n c.ranges.n.sfits) ∙ signed-is c.args.n c.ranges.n.sfits) in
+    c.push_str-2.ensures.bytes ∙ ap (λ (t : List ℕ). t ++ c.args.after.now) digits ∙ append_assoc c.args.line.now.bytes (signed_text c.args.n) c.args.after.now

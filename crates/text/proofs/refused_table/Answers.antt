@@ -1,21 +1,14 @@
--- The letter, the number, the line and the field, where one is named, stand in the buffer one after another.
-use Rattle.std.proofs.Common.{rules, arith}
+-- The letter, the number, the line and the field, where one is named, stand one after another.
+use Rattle.std.proofs.Common.{rules, append_assoc}
 use Rattle.text.specs.Line.{number}
-use Rattle.text.proofs.Putting.{put_on, put_back}
-use Rattle.text.proofs.Signs.{is-so, is-not}
+use Rattle.text.proofs.Putting.{said_back}
+use Rattle.text.proofs.Signs.{is-not}
 use Rattle.text.proofs.refused_table.Goals as goal
 
-pub returns-then-field-eq-NO_FIELD-clause-put : goal.returns-then-field-eq-NO_FIELD-clause-put
-returns-then-field-eq-NO_FIELD-clause-put c =
+pub returns-else-field-eq-NO_FIELD : goal.returns-else-field-eq-NO_FIELD
+returns-else-field-eq-NO_FIELD c =
     let row = c.args.row in
-    let line = put_back (number row 2) 10 (search rules) c.put.ensures.put in
-    let number_on = put_on (put_back (number row 1) 32 (search rules) c.put-number.ensures.put) (omega arith) line in
-    rw (is-so (number row 3) 0 (omega arith) (record { sfits = search rules }) c.if-field-eq-NO_FIELD.true) (put_on c.put_letter-letter.ensures (omega arith) number_on)
-
-pub returns-clause-put : goal.returns-clause-put
-returns-clause-put c =
-    let row = c.args.row in
-    let field = put_back (number row 3) 10 (search rules) c.put-2.ensures.put in
-    let line = put_on (put_back (number row 2) 32 (search rules) c.put-line.ensures.put) (omega arith) field in
-    let number_on = put_on (put_back (number row 1) 32 (search rules) c.put-number.ensures.put) (omega arith) line in
-    rw (is-not (number row 3) 0 c.if-field-eq-NO_FIELD.false) (put_on c.put_letter-letter.ensures (omega arith) number_on)
+    let field = said_back (number row 3) _ _ (search rules) c.put-else-field-eq-NO_FIELD-2.ensures.text in
+    let line = said_back (number row 2) _ _ (search rules) c.put-else-field-eq-NO_FIELD.ensures.text in
+    let why = said_back (number row 1) _ _ (search rules) c.put.ensures.text in
+    rw (is-not (number row 3) 0 c.if-field-eq-NO_FIELD.false, field, line, why, c.push_str.ensures.bytes, c.new-line.ensures) (simp append_assoc)
