@@ -7,9 +7,9 @@ use lib.ListN.{length, get_or, set, take, length-map, get_or-map}
 use lib.Seq.{get_or-take, length-take-le, take-set-le, take-set-lt, get_or-set_same, get_or-set_other}
 use Rattle.method.specs.words.Types.{blank}
 use Rattle.corridor.specs.View.{with_line}
-use Rattle.host_row.specs.Packed.{no_row, drawn_row, judged_row, terms_in, market_in, limits_in, book_in, holds_in, line_in, head_in}
-use Rattle.host_memory.specs.Names.{Limits, Book, Holds, Line, Head}
-use Rattle.host_memory.specs.Memory.{Memory, no_pair, head_of, with_judged, session_of, session_in}
+use Rattle.host_row.specs.Packed.{no_row, line_in, head_in}
+use Rattle.host_memory.specs.Names.{Line, Head}
+use Rattle.host_memory.specs.Memory.{Memory, no_pair, head_of, session_of, session_in}
 
 -- ---- the head is read
 pub head_is : (pairs : Memory) {h : Head} → h ≡ head_in (head_of pairs) → session_in pairs ≡ session_of (session_in pairs).lines h
@@ -22,7 +22,7 @@ unfolding session_in
 full_in pairs h = length-map (take 32 pairs) line_in ∙ length-take-le 32 pairs (omega arith)
 
 -- what is read within a list does not hang on what would stand past its end
-within : {A : Type 0} (xs : List A) (i : ℕ) (d e : A) → i < length xs → get_or xs i d ≡ get_or xs i e
+pub within : {A : Type 0} (xs : List A) (i : ℕ) (d e : A) → i < length xs → get_or xs i d ≡ get_or xs i e
 within [] i d e h = absurd (never i h)
   where
     never : (n : ℕ) → n < 0 → ⊥
@@ -42,7 +42,7 @@ map-set f [] i x = refl
 map-set f (y ∷ xs) zero x = refl
 map-set f (y ∷ xs) (suc i) x = ap (λ (zs : List _). f y ∷ zs) (map-set f xs i x)
 
-line_stored : (pairs : Memory) (p : ℕ) (pair : List (List ℕ)) (m : Line) → p < 32 → line_in pair ≡ m → session_in (set pairs p pair) ≡ with_line (session_in pairs) p m
+pub line_stored : (pairs : Memory) (p : ℕ) (pair : List (List ℕ)) (m : Line) → p < 32 → line_in pair ≡ m → session_in (set pairs p pair) ≡ with_line (session_in pairs) p m
 unfolding session_in
 line_stored pairs p pair m h e =
     ap (λ (ls : List Line). session_of ls (head_in (head_of (set pairs p pair)))) (ap (map line_in) (take-set-lt 32 pairs p pair h) ∙ map-set line_in (take 32 pairs) p pair)
@@ -52,42 +52,9 @@ line_stored pairs p pair m h e =
     other : 32 ≡ p → ⊥
     other q = omega arith
 
--- its second row alone
-module _ (pairs : Memory) (p : ℕ) (row : List ℕ) (long : length pairs ≡ 33) (two : length (get_or pairs p no_pair) ≡ 2) (h : p < 32) where
-  abbrev pair : List (List ℕ)
-  pair = get_or pairs p no_pair
-
-  first-stands : drawn_row (set pair 1 row) ≡ drawn_row pair
-  first-stands = get_or-set_other pair 1 0 row no_row (λ q. omega arith)
-
-  second_is : judged_row (set pair 1 row) ≡ row
-  second_is = get_or-set_same pair 1 row no_row (omega arith)
-
-  pub judged_stored : {k : Limits} {b : Book} {o : Holds} → (limits_in row ≡ k) × (book_in row ≡ b) × (holds_in row ≡ o)
-      → session_in (set pairs p (set pair 1 row)) ≡ with_line (session_in pairs) p (with_judged (get_or (session_in pairs).lines p blank) k b o)
-  unfolding line_in
-  judged_stored (limits, book, holds) =
-      let was = sym (line-is pairs p long h) in
-      line_stored pairs p (set pair 1 row) _ h
-      (λ j.
-      record {
-        terms = (ap terms_in first-stands ∙ ap (λ (l : Line). l.terms) was) j;
-        market = (ap market_in first-stands ∙ ap (λ (l : Line). l.market) was) j;
-        limits = (ap limits_in second_is ∙ limits) j;
-        book = (ap book_in second_is ∙ book) j;
-        holds = (ap holds_in second_is ∙ holds) j;
-      })
-
--- ---- the head is written, in its pair
+-- ---- the head is written
 pub head_stored : (pairs : Memory) (pair : List (List ℕ)) {h : Head} → length pairs ≡ 33 → head_in (get_or pair 0 no_row) ≡ h → session_in (set pairs 32 pair) ≡ session_of (session_in pairs).lines h
 unfolding session_in
 head_stored pairs pair long e =
     ap (λ (ls : List Line). session_of ls (head_in (head_of (set pairs 32 pair)))) (ap (map line_in) (take-set-le 32 pairs 32 pair (omega arith)))
     ∙ ap (session_of (map line_in (take 32 pairs))) (ap (λ (r : List (List ℕ)). head_in (get_or r 0 no_row)) (get_or-set_same pairs 32 pair no_pair (omega arith)) ∙ e)
-
--- its row alone
-pub head_row_stored : (pairs : Memory) (row : List ℕ) {h : Head} → length pairs ≡ 33 → length (get_or pairs 32 no_pair) ≡ 2 → head_in row ≡ h
-    → session_in (set pairs 32 (set (get_or pairs 32 no_pair) 0 row)) ≡ session_of (session_in pairs).lines h
-head_row_stored pairs row long two e =
-    let pair = get_or pairs 32 no_pair in
-    head_stored pairs (set pair 0 row) long (ap head_in (get_or-set_same pair 0 row no_row (omega (arith, two))) ∙ e)

@@ -9,6 +9,11 @@ use numbers::{Millionths, Seconds};
 pub mod reading;
 pub mod writing;
 
+pub type Row = [u64; 16];
+
+// A line's two rows.
+pub type Pair = [Row; 2];
+
 // The head of a session: what it has beside its lines, in a row of its own.
 #[derive(Clone, Copy)]
 pub struct Head {

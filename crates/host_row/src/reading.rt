@@ -4,7 +4,7 @@ ghost use Rattle.std.specs.Prelude.{◌≡◌};
 ghost use Rattle.method.specs.words.Types.{steps};
 ghost use Rattle.host_row.specs.Packed.{word_in, mark_in, signed_in, price_in, hold_in, terms_in, market_in, limits_in, book_in, holds_in, line_in, head_in};
 
-use crate::Head;
+use crate::{Head, Pair, Row};
 use method::{Book, Factors, Hold, Holds, Limits, Line, Market, Price, Terms};
 use numbers::{Billionths, Millionths, Seconds, Steps};
 
@@ -59,14 +59,14 @@ fn hold(there: u64, n: u64) -> Hold
 
 // The id alone, for a walk over lines that has no use for the rest.
 #[tactic(auto, unfolding(crate::specs::Packed::terms_in))]
-pub fn id(row: &[u64; 16]) -> u32
+pub fn id(row: &Row) -> u32
     ensures { result ≡ (terms_in row.now).id }
 {
     word(row[0])
 }
 
 #[tactic(auto, unfolding(crate::specs::Packed::terms_in))]
-fn terms(row: &[u64; 16]) -> Terms
+fn terms(row: &Row) -> Terms
     ensures { result ≡ terms_in row.now }
 {
     Terms {
@@ -81,7 +81,7 @@ fn terms(row: &[u64; 16]) -> Terms
 }
 
 #[tactic(auto, unfolding(crate::specs::Packed::market_in))]
-fn market(row: &[u64; 16]) -> Market
+fn market(row: &Row) -> Market
     ensures { result ≡ market_in row.now }
 {
     Market {
@@ -95,7 +95,7 @@ fn market(row: &[u64; 16]) -> Market
 // ---- what pressure is judged on, in its second row
 
 #[tactic(auto, unfolding(crate::specs::Packed::limits_in))]
-fn limits(row: &[u64; 16]) -> Limits
+fn limits(row: &Row) -> Limits
     ensures { result ≡ limits_in row.now }
 {
     Limits {
@@ -106,7 +106,7 @@ fn limits(row: &[u64; 16]) -> Limits
 }
 
 #[tactic(auto, unfolding(crate::specs::Packed::book_in))]
-fn book(row: &[u64; 16]) -> Book
+fn book(row: &Row) -> Book
     ensures { result ≡ book_in row.now }
 {
     Book {
@@ -116,7 +116,7 @@ fn book(row: &[u64; 16]) -> Book
 }
 
 #[tactic(auto, unfolding(crate::specs::Packed::holds_in))]
-pub fn holds(row: &[u64; 16]) -> Holds
+pub fn holds(row: &Row) -> Holds
     ensures { result ≡ holds_in row.now }
 {
     Holds {
@@ -127,7 +127,7 @@ pub fn holds(row: &[u64; 16]) -> Holds
 
 // The line that two rows have.
 #[tactic(auto, unfolding(crate::specs::Packed::line_in))]
-pub fn line(pair: &[[u64; 16]; 2]) -> Line
+pub fn line(pair: &Pair) -> Line
     ensures { result ≡ line_in pair.now }
 {
     Line {
@@ -141,7 +141,7 @@ pub fn line(pair: &[[u64; 16]; 2]) -> Line
 
 // The head that a row has.
 #[tactic(auto, unfolding(crate::specs::Packed::head_in))]
-pub fn head(row: &[u64; 16]) -> Head
+pub fn head(row: &Row) -> Head
     ensures { result ≡ head_in row.now }
 {
     Head {

@@ -3,7 +3,7 @@
 ghost use Rattle.std.specs.Prelude.{◌≡◌};
 ghost use Rattle.host_row.specs.Packed.{word_in, mark_in, signed_in, price_in, hold_in, terms_in, market_in, limits_in, book_in, holds_in, line_in, head_in};
 
-use crate::Head;
+use crate::{Head, Pair, Row};
 use method::{Book, Hold, Holds, Limits, Line, Market, Price, Terms};
 use numbers::Steps;
 
@@ -71,7 +71,7 @@ fn hold_numbers(h: Hold) -> Two
 
 // A line's first row: what its bounds are drawn from.
 #[tactic(auto, unfolding(crate::specs::Packed::terms_in, crate::specs::Packed::market_in))]
-fn drawn_row(terms: Terms, market: Market) -> [u64; 16]
+fn drawn_row(terms: Terms, market: Market) -> Row
     ensures { (terms_in result ≡ terms) × (market_in result ≡ market) }
 {
     [
@@ -96,7 +96,7 @@ fn drawn_row(terms: Terms, market: Market) -> [u64; 16]
 
 // Its second row: what pressure is judged on.
 #[tactic(auto, unfolding(crate::specs::Packed::limits_in, crate::specs::Packed::book_in, crate::specs::Packed::holds_in))]
-pub fn judged_row(limits: Limits, book: Book, holds: Holds) -> [u64; 16]
+pub fn judged_row(limits: Limits, book: Book, holds: Holds) -> Row
     ensures { (limits_in result ≡ limits) × (book_in result ≡ book) × (holds_in result ≡ holds) }
 {
     let bid = book.bid;
@@ -129,7 +129,7 @@ pub fn judged_row(limits: Limits, book: Book, holds: Holds) -> [u64; 16]
 
 // Two rows that have the line.
 #[tactic(auto, unfolding(crate::specs::Packed::line_in))]
-pub fn rows(l: Line) -> [[u64; 16]; 2]
+pub fn rows(l: Line) -> Pair
     ensures { line_in result ≡ l }
 {
     [
@@ -140,10 +140,10 @@ pub fn rows(l: Line) -> [[u64; 16]; 2]
 
 // A row that has the head.
 #[tactic(auto, unfolding(crate::specs::Packed::head_in))]
-pub fn head_row(h: Head) -> [u64; 16]
+pub fn head_row(h: Head) -> Row
     ensures { head_in result ≡ h }
 {
-    let mut row: [u64; 16] = [0; 16];
+    let mut row: Row = [0; 16];
     row[0] = h.count as u64;
     row[1] = word_number(h.clock.0);
     row[2] = word_number(h.end.0);

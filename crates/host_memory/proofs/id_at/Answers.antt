@@ -7,4 +7,4 @@ use Rattle.host_memory.proofs.id_at.Goals as goal
 
 pub returns : goal.returns
 unfolding line_in
-returns c = c.id.ensures ∙ sym (ap (λ (l : Line). l.terms.id) (line-is c.args.memory.now c.args.place c.pairs.ensures.1 c.requires))
+returns c = c.id.ensures ∙ sym (ap (λ (l : Line). l.terms.id) (line-is c.args.memory.now c.args.place c.told-memory c.requires))

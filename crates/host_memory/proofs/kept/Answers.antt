@@ -8,7 +8,7 @@ use Rattle.host_memory.proofs.kept.Goals as goal
 
 pub returns : goal.returns
 returns c =
-    let s = c.args.s in
-    head_stored c.loop-i.memory _ c.loop-i.invariant.pairs c.head_row-top.ensures
+    let s = c.args.s.now in
+    head_stored c.loop-place.memory _ c.loop-place.invariant.pairs c.head_row-head.ensures
     ∙ ap (λ (ls : List Line). moved_on s ls s.clock)
-    (sym (all_lines c.loop-i.memory s.lines c.loop-i.i (omega arith) c.loop-i.invariant.full (sym c.loop-i.invariant.so_far)))
+    (sym (all_lines c.loop-place.memory s.lines c.loop-place.place (omega arith) c.loop-place.invariant.full (sym c.loop-place.invariant.so_far)))

@@ -4,4 +4,4 @@ use Rattle.host_memory.proofs.Places.{line-is}
 use Rattle.host_memory.proofs.line_at.Goals as goal
 
 pub returns : goal.returns
-returns c = c.line.ensures ∙ sym (line-is c.args.memory.now c.args.place c.pairs.ensures.1 c.requires)
+returns c = c.line.ensures ∙ sym (line-is c.args.memory.now c.args.place c.told-memory c.requires)

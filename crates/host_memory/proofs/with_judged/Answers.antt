@@ -1,6 +1,12 @@
--- `host_memory::with_judged`: the second row of the line's pair is stored.
-use Rattle.host_memory.proofs.Places.{judged_stored}
+-- `host_memory::with_judged`: the line's pair is stored, with another second row.
+use Rattle.std.proofs.Common.{sym, ap, ◌∙◌}
+use Rattle.host_memory.specs.Names.{Line}
+use Rattle.host_memory.specs.Memory.{with_judged}
+use Rattle.host_memory.proofs.Places.{line-is, line_stored}
 use Rattle.host_memory.proofs.with_judged.Goals as goal
 
 pub returns : goal.returns
-returns c = judged_stored c.args.memory.now c.args.place _ c.pairs.ensures.1 c.rows.ensures.1 c.requires c.judged_row-row.ensures
+returns c =
+    let pairs = c.args.memory.now in
+    line_stored pairs c.args.place c.judge.new.pair _ c.requires
+    (c.judge.ensures ∙ ap (λ (l : Line). with_judged l c.args.limits c.args.book c.args.holds) (sym (line-is pairs c.args.place c.told-memory c.requires)))
