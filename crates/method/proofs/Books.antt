@@ -1,4 +1,5 @@
 -- What becomes of the books: a shift leaves them, a quote replaces one. An accepted table's ids differ, so it is one line's. Assumes nothing.
+use Rattle.std.specs.Prelude.{Ok}
 use mathlib.Core.Path.{◌≡◌, refl, sym, ap, ◌∙◌, subst}
 use mathlib.Core.Bool.{Bool, true, false, cond, true≢false, false≢true}
 use mathlib.Core.List.{List, [], ◌∷◌, ◌++◌, map, append_assoc}
@@ -129,10 +130,10 @@ module _ (near : Millionths) (left : ℕ) (b : List ℕ) (quote : IsQuote b) whe
 
 -- ---- an accepted event
 module _ (s : State) (b : List ℕ) where
-  taken : verdict s (read b) ≡ EventAnswer.Accepted → EventAnswered s b EventAnswer.Accepted
+  taken : verdict s (read b) ≡ Ok tt → EventAnswered s b (Ok tt)
   taken v = subst (EventAnswered s b) v (event_answered s b)
 
-  pub books-over : (cs : List ShiftLine) → Distinct (ids s.lines) → verdict s (read b) ≡ EventAnswer.Accepted
+  pub books-over : (cs : List ShiftLine) → Distinct (ids s.lines) → verdict s (read b) ≡ Ok tt
       → Each (BookLife b) s.lines (next s (read b) (accepted cs)).lines
   unfolding next applied
   books-over cs ps v = go (taken v)
@@ -140,7 +141,7 @@ module _ (s : State) (b : List ℕ) where
       rs : Each SameBook s.lines (after cs s).lines
       rs = same_book_after s.lines cs s (each_same_book s.lines)
 
-      go : EventAnswered s b EventAnswer.Accepted → Each (BookLife b) s.lines (applied (read b) (after cs s)).lines
+      go : EventAnswered s b (Ok tt) → Each (BookLife b) s.lines (applied (read b) (after cs s)).lines
       go (tick_taken t i) =
           rw (read_tick-is s b t)
           (each_weaker SameBook (BookLife b) (λ o l a. untouched b o l (λ q. omega (arith, t.flags, q.quote.like.flags)) a) s.lines (after cs s).lines rs)
@@ -149,9 +150,9 @@ module _ (s : State) (b : List ℕ) where
           (quoted-books (after cs s).near (after cs s).left b q s.lines (after cs s).lines
           (subst Distinct (same-ids SameBook (λ o l a. a.terms) s.lines (after cs s).lines rs) ps) rs)
 
-  pub accepted-time : verdict s (read b) ≡ EventAnswer.Accepted → time (read b) ≡ seconds (word b 0)
+  pub accepted-time : verdict s (read b) ≡ Ok tt → time (read b) ≡ seconds (word b 0)
   accepted-time v = go (taken v)
     where
-      go : EventAnswered s b EventAnswer.Accepted → time (read b) ≡ seconds (word b 0)
+      go : EventAnswered s b (Ok tt) → time (read b) ≡ seconds (word b 0)
       go (tick_taken t i) = rw (read_tick-is s b t)
       go (quote_taken q i k c) = rw (read_quote-is s b q)

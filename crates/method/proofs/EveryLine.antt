@@ -1,10 +1,11 @@
 -- What a shift and a quote keep of one line, every run keeps of all lines. Assumes nothing.
+use Rattle.std.specs.Prelude.{Ok, Err}
 use mathlib.Core.List.{List, [], ◌∷◌}
 use Prim.Native.Nat.{ℕ, ◌-◌}
 use Rattle.method.specs.words.Types.{Side, Seconds, Millionths, Line, ShiftLine, State}
 use Rattle.method.specs.words.Ranges.{Every}
 use Rattle.method.specs.words.Sessions.{Answer, accepted, refused}
-use Rattle.method.specs.computed.Types.{Quote, Event, Damaged, Tick, Quoted}
+use Rattle.method.specs.computed.Types.{Quote, ReadEvent, Tick, Quoted}
 use Rattle.method.specs.computed.Shift.{shift_line, shifted, onward, after}
 use Rattle.method.specs.computed.Event.{read, quoted_line, applied, next}
 use Rattle.method.specs.computed.Relation.{reached}
@@ -23,13 +24,13 @@ module _
   after_keeps [] s h = h
   after_keeps (c ∷ cs) s h = after_keeps cs (onward s c) (onward_keeps s c h)
 
-  applied_keeps : (e : Event) (s : State) → Every P s.lines → Every P (applied e s).lines
+  applied_keeps : (e : ReadEvent) (s : State) → Every P s.lines → Every P (applied e s).lines
   unfolding applied
-  applied_keeps (Damaged why) s h = h
-  applied_keeps (Tick t) s h = h
-  applied_keeps (Quoted q) s h = every_quoted s.near s.left q P (on-quote s.near s.left q) s.lines h
+  applied_keeps (Err why) s h = h
+  applied_keeps (Ok (Tick t)) s h = h
+  applied_keeps (Ok (Quoted q)) s h = every_quoted s.near s.left q P (on-quote s.near s.left q) s.lines h
 
-  next_keeps : (s : State) (e : Event) (a : Answer) → Every P s.lines → Every P (next s e a).lines
+  next_keeps : (s : State) (e : ReadEvent) (a : Answer) → Every P s.lines → Every P (next s e a).lines
   unfolding next
   next_keeps s e (refused why) h = h
   next_keeps s e (accepted cs) h = applied_keeps e (after cs s) (after_keeps cs s h)

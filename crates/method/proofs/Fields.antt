@@ -1,4 +1,5 @@
 -- A contract's fields: each is good exactly where it is in its range, and the first that is not is the one that is named. Assumes nothing.
+use Rattle.std.specs.Prelude.{Ok, Err}
 use mathlib.Core.Path.{◌≡◌, refl, sym, ap, ◌∙◌}
 use mathlib.Core.Bool.{Bool, true, false, ◌||◌, cond}
 use mathlib.Core.List.{List, [], ◌∷◌, ◌++◌}
@@ -49,10 +50,10 @@ module _ (c : Contract) where
   Good fs = Every (λ f. FieldIn f c) fs
 
   data FieldsAnswered (fs : List Field) : FieldsAnswer → Type 0 where
-    fields-good : Good fs → FieldsAnswered fs FieldsAnswer.Good
+    fields-good : Good fs → FieldsAnswered fs (Ok tt)
     field_bad :
         (before : List Field) (f : Field) (rest : List Field) → fs ≡ before ++ f ∷ rest → Good before → (FieldIn f c → ⊥)
-        → FieldsAnswered fs (FieldsAnswer.Bad f)
+        → FieldsAnswered fs (Err f)
 
   fields_answered : (fs : List Field) → FieldsAnswered fs (first_bad c fs)
   unfolding first_bad Every
@@ -63,16 +64,16 @@ module _ (c : Contract) where
       later g (fields-good r) = fields-good (unfold Every in (g, r))
       later g (field_bad before e rest q r n) = field_bad (f ∷ before) e rest (ap (λ (es : List Field). f ∷ es) q) (unfold Every in (g, r)) n
 
-      go : (t : Bool) → field_good f c ≡ t → FieldsAnswered fs (first_bad c fs) → FieldsAnswered (f ∷ fs) (cond t (first_bad c fs) (FieldsAnswer.Bad f))
+      go : (t : Bool) → field_good f c ≡ t → FieldsAnswered fs (first_bad c fs) → FieldsAnswered (f ∷ fs) (cond t (first_bad c fs) (Err f))
       go true e more = later (field_in f c e) more
       go false e more = field_bad [] f fs refl (unfold Every in tt) (denied (field_good f c) (field_test f c) e)
 
-  none_bad : (fs : List Field) → Good fs → first_bad c fs ≡ FieldsAnswer.Good
+  none_bad : (fs : List Field) → Good fs → first_bad c fs ≡ Ok tt
   unfolding first_bad Every
   none_bad [] r = refl
   none_bad (f ∷ fs) r = rw (field_test f c r.0) (none_bad fs r.1)
 
-  first-is : (before : List Field) (f : Field) (rest : List Field) → Good before → (FieldIn f c → ⊥) → first_bad c (before ++ f ∷ rest) ≡ FieldsAnswer.Bad f
+  first-is : (before : List Field) (f : Field) (rest : List Field) → Good before → (FieldIn f c → ⊥) → first_bad c (before ++ f ∷ rest) ≡ Err f
   unfolding first_bad Every
   first-is [] f rest r n = rw (refuted (field_good f c) (field_in f c) n)
   first-is (e ∷ before) f rest r n = rw (field_test e c r.0) (first-is before f rest r.1 n)
@@ -95,11 +96,11 @@ module _ (c : Contract) where
   all_good [] r = tt
   all_good (f ∷ fs) r = (r f, all_good fs r)
 
-  pub contract_test : ContractIn c → fields_answer c ≡ FieldsAnswer.Good
+  pub contract_test : ContractIn c → fields_answer c ≡ Ok tt
   contract_test r = none_bad contract_fields (all_good contract_fields r)
 
   pub first-named : (before : List Field) (f : Field) (rest : List Field) → contract_fields ≡ before ++ f ∷ rest → Good before → (FieldIn f c → ⊥)
-      → fields_answer c ≡ FieldsAnswer.Bad f
+      → fields_answer c ≡ Err f
   first-named before f rest e r n = rw e (first-is before f rest r n)
 
   -- a contract is in its ranges, or has a first field that is not
@@ -114,13 +115,13 @@ module _ (c : Contract) where
   -- what holds of both answers holds of the choice between them
   pub by_fields : (P : LineAnswer → Type 0) {onward : LineAnswer} → (ContractIn c → P onward)
       → ((before : List Field) (f : Field) (rest : List Field) → contract_fields ≡ before ++ f ∷ rest → Good before → (FieldIn f c → ⊥)
-      → P (LineAnswer.Refused (TableReason.Field f)))
+      → P (Err (TableReason.Field f)))
       → P (if_fields_good (fields_answer c) onward)
   by_fields P good bad =
       by_first (λ q. rw (contract_test q) (good q)) (λ before f rest e r n. rw (first-named before f rest e r n) (bad before f rest e r n))
 
-  not_bad : {f : Field} → FieldsAnswer.Bad f ≡ FieldsAnswer.Good → ⊥
+  not_bad : {f : Field} → ◌≡◌ {A = FieldsAnswer} (Err f) (Ok tt) → ⊥
   not_bad e = let z : ◌≡◌ {A = ℕ} 0 1 = cc in omega arith
 
-  pub contract_in : fields_answer c ≡ FieldsAnswer.Good → ContractIn c
+  pub contract_in : fields_answer c ≡ Ok tt → ContractIn c
   contract_in e = by_first (λ q. q) (λ before f rest p r n. absurd (not_bad (sym (first-named before f rest p r n) ∙ e)))

@@ -1,5 +1,6 @@
 -- What a session has beside its lines: what the table fixed, which every step keeps, and how many shifts may still be made. A number that the
 -- head is given later is spoken of here and in the words; no other proof writes a state out. Assumes nothing.
+use Rattle.std.specs.Prelude.{Ok, Err}
 use mathlib.Core.Path.{◌≡◌, refl, sym, ◌∙◌}
 use mathlib.Core.List.{List, [], ◌∷◌}
 use Prim.Native.Nat.{ℕ, ◌-◌, ◌≤◌, ◌<◌}
@@ -7,7 +8,7 @@ use native.Mathlib.Omega.{arith}
 use Rattle.method.specs.words.Types.{Header, Side, Seconds, Line, ShiftLine, State}
 use Rattle.method.specs.words.Tables.{opening_state}
 use Rattle.method.specs.words.Sessions.{SameTable}
-use Rattle.method.specs.computed.Types.{Event, Damaged, Tick, Quoted}
+use Rattle.method.specs.computed.Types.{ReadEvent, Tick, Quoted}
 use Rattle.method.specs.computed.Head.{with_lines, most_left}
 use Rattle.method.specs.computed.Shift.{shifted, onward, after}
 use Rattle.method.specs.computed.Event.{applied}
@@ -32,11 +33,11 @@ unfolding after
 after_kept [] s = same-table s
 after_kept (c ∷ cs) s = table_on (onward-kept s c) (after_kept cs (onward s c))
 
-pub applied-kept : (e : Event) (s : State) → SameTable s (applied e s)
+pub applied-kept : (e : ReadEvent) (s : State) → SameTable s (applied e s)
 unfolding applied
-applied-kept (Damaged why) s = same-table s
-applied-kept (Tick t) s = with_lines-kept s _ _ _
-applied-kept (Quoted q) s = with_lines-kept s _ _ _
+applied-kept (Err why) s = same-table s
+applied-kept (Ok (Tick t)) s = with_lines-kept s _ _ _
+applied-kept (Ok (Quoted q)) s = with_lines-kept s _ _ _
 
 -- and with lines, shifts left and clock it leaves one state
 pub state-one : {s n r : State} → n.lines ≡ r.lines → n.left ≡ r.left → n.clock ≡ r.clock → SameTable s n → SameTable s r → n ≡ r
@@ -55,11 +56,11 @@ pub left-onward : (s : State) (c : ShiftLine) → (onward s c).left ≡ s.left -
 unfolding shifted
 left-onward s c = refl
 
-pub left-applied : (e : Event) (s : State) → (applied e s).left ≡ s.left
+pub left-applied : (e : ReadEvent) (s : State) → (applied e s).left ≡ s.left
 unfolding applied
-left-applied (Damaged why) s = refl
-left-applied (Tick t) s = refl
-left-applied (Quoted q) s = refl
+left-applied (Err why) s = refl
+left-applied (Ok (Tick t)) s = refl
+left-applied (Ok (Quoted q)) s = refl
 
 -- ---- the shifts that may still be made in all: no fewer than are left now, fewer with each shift, no more with an event
 pub left_within : (s : State) → s.left ≤ most_left s
@@ -74,8 +75,8 @@ pub most-shifted : (side : Side) (now : Seconds) (s : State) → 0 < s.left → 
 unfolding most_left shifted
 most-shifted side now s h = omega arith
 
-pub most-applied : (e : Event) (s : State) → most_left (applied e s) ≤ most_left s
+pub most-applied : (e : ReadEvent) (s : State) → most_left (applied e s) ≤ most_left s
 unfolding most_left applied
-most-applied (Damaged why) s = omega arith
-most-applied (Tick t) s = omega arith
-most-applied (Quoted q) s = omega arith
+most-applied (Err why) s = omega arith
+most-applied (Ok (Tick t)) s = omega arith
+most-applied (Ok (Quoted q)) s = omega arith

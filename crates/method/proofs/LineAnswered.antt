@@ -1,4 +1,5 @@
 -- Rule 1 for one contract: which answer it has after some contracts before it. Assumes nothing.
+use Rattle.std.specs.Prelude.{Ok, Err}
 use mathlib.Core.Path.{◌≡◌, refl, ap}
 use mathlib.Core.Bool.{true}
 use mathlib.Core.List.{List, [], ◌∷◌, map}
@@ -47,8 +48,8 @@ module _ (shift : Millionths) (keys : List Key) where
 
   -- ---- one contract
   pub data LineAnswered (earlier : List Contract) (c : Contract) : LineAnswer → Type 0 where
-    line-good : Good shift keys earlier c → LineAnswered earlier c (LineAnswer.Opened (its_line shift keys c))
-    line_bad : (why : TableReason) → Fault shift keys earlier c why → LineAnswered earlier c (LineAnswer.Refused why)
+    line-good : Good shift keys earlier c → LineAnswered earlier c (Ok (its_line shift keys c))
+    line_bad : (why : TableReason) → Fault shift keys earlier c why → LineAnswered earlier c (Err why)
 
   pub line_answered : (earlier : List Contract) (c : Contract) → LineAnswered earlier c (open_line shift keys (lines_of earlier) c)
   unfolding open_line opened_with
@@ -75,12 +76,12 @@ module _ (shift : Millionths) (keys : List Key) where
       (λ b. line_bad TableReason.Id (Fault.id a (denied (id_good (lines_of earlier) c.id) (fresh_test earlier c.id) b))))
       (λ before f rest e r n. line_bad (TableReason.Field f) (Fault.field before f rest e r n))
 
-  pub line-opened : (earlier : List Contract) (c : Contract) → Good shift keys earlier c → open_line shift keys (lines_of earlier) c ≡ LineAnswer.Opened (its_line shift keys c)
+  pub line-opened : (earlier : List Contract) (c : Contract) → Good shift keys earlier c → open_line shift keys (lines_of earlier) c ≡ Ok (its_line shift keys c)
   unfolding open_line opened_with
   line-opened earlier c g =
       rw (contract_test c g.fields, fresh_test earlier c.id g.id, le-leb _ _ g.cap, true-le g.moves, inside_test _ _ _ g.inside)
 
-  pub line_refused : (earlier : List Contract) (c : Contract) {why : TableReason} → Fault shift keys earlier c why → open_line shift keys (lines_of earlier) c ≡ LineAnswer.Refused why
+  pub line_refused : (earlier : List Contract) (c : Contract) {why : TableReason} → Fault shift keys earlier c why → open_line shift keys (lines_of earlier) c ≡ Err why
   unfolding open_line opened_with
   line_refused earlier c (Fault.field before f rest e r n) = rw (first-named c before f rest e r n)
   line_refused earlier c (Fault.id a f) = rw (contract_test c a, refuted (id_good (lines_of earlier) c.id) (fresh_in earlier c.id) f)

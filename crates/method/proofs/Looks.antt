@@ -1,12 +1,13 @@
 -- Two looks are one: an event that tells nothing new, and an accepted event after it, serve together what the later one serves alone.
 -- Assumes nothing.
+use Rattle.std.specs.Prelude.{Ok}
 use mathlib.Core.Path.{◌≡◌, sym, ◌∙◌}
 use mathlib.Core.List.{List, ◌++◌}
 use Prim.Native.Nat.{◌≤◌}
 use native.Mathlib.Omega.{arith}
 use Rattle.method.specs.words.Types.{ShiftLine, State, EventAnswer}
 use Rattle.method.specs.words.Sessions.{accepted}
-use Rattle.method.specs.computed.Types.{Event}
+use Rattle.method.specs.computed.Types.{ReadEvent}
 use Rattle.method.specs.computed.Shift.{after}
 use Rattle.method.specs.computed.Event.{verdict, next}
 use Rattle.method.specs.computed.Relation.{Calls, time, Right}
@@ -16,7 +17,7 @@ use Rattle.method.proofs.Serving.{calls_append, after-append, after-judged}
 use Rattle.method.proofs.Clock.{at-clock, calls_clock, after_clock, applied_anew, verdict-clock}
 use Rattle.method.proofs.Repeats.{Still, still_after, still_applied}
 
-module _ (s : State) (v : Sound s) (e f : Event) (cs : List ShiftLine) (h : Still s e) (a : verdict s e ≡ EventAnswer.Accepted) where
+module _ (s : State) (v : Sound s) (e f : ReadEvent) (cs : List ShiftLine) (h : Still s e) (a : verdict s e ≡ Ok tt) where
   -- m is the state after the event e, which sets the clock and changes nothing else of what serving left
   abbrev m : State
   m = next s e (accepted cs)
@@ -29,12 +30,12 @@ module _ (s : State) (v : Sound s) (e f : Event) (cs : List ShiftLine) (h : Stil
   only-clock = still_applied e (after cs s) s a (after-judged cs s v.exact) (still_after e cs s h)
 
   -- f is accepted after e exactly where it is accepted before e and does not lie before e
-  pub taken-later : (time e).0 ≤ (time f).0 → verdict s f ≡ EventAnswer.Accepted → verdict m f ≡ EventAnswer.Accepted
+  pub taken-later : (time e).0 ≤ (time f).0 → verdict s f ≡ Ok tt → verdict m f ≡ Ok tt
   taken-later l k = rw only-clock (verdict-clock (time e) (after cs s) f l (verdict-after cs s f ∙ k))
 
-  pub taken-sooner : verdict m f ≡ EventAnswer.Accepted → ((time e).0 ≤ (time f).0) × (verdict s f ≡ EventAnswer.Accepted)
+  pub taken-sooner : verdict m f ≡ Ok tt → ((time e).0 ≤ (time f).0) × (verdict s f ≡ Ok tt)
   taken-sooner k =
-      let k' : verdict only-served f ≡ EventAnswer.Accepted = rw only-clock at k in
+      let k' : verdict only-served f ≡ Ok tt = rw only-clock at k in
       let l : (time e).0 ≤ (time f).0 = (on_time _ f k').least in
       let c : s.clock.0 ≤ (time e).0 = (on_time s e a).least in
       let back = verdict-clock s.clock only-served f (omega arith) k' in

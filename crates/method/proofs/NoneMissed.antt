@@ -1,5 +1,6 @@
 -- No shift is missed: every hold that falls due is answered, by a shift of its side at its second or before, or by the last shift that was
 -- left. A shift of the other side leaves it standing, since it ends no pressure there. Assumes nothing.
+use Rattle.std.specs.Prelude.{Some}
 use mathlib.Core.Path.{◌≡◌, refl}
 use mathlib.Core.Logic.{◌⊎◌, inl, inr}
 use mathlib.Core.List.Memᴰ
@@ -7,7 +8,7 @@ use mathlib.Core.List.{List, [], ◌∷◌}
 use Prim.Native.Nat.{ℕ, zero, suc, ◌-◌, ◌≤◌, ◌<◌}
 use native.Mathlib.Omega.{arith}
 use lib.ListN.{length}
-use Rattle.method.specs.words.Types.{Side, Up, Down, Seconds, Hold, Since, ShiftLine, Due, State}
+use Rattle.method.specs.words.Types.{Side, Up, Down, Seconds, Hold, ShiftLine, Due, State}
 use Rattle.method.specs.words.Ranges.{Every}
 use Rattle.method.specs.words.Holds.{Stands, due_at, Done, remaining, hold_at}
 use Rattle.method.specs.laws.Seen.{Answered, by_shift, all_made}
@@ -33,7 +34,7 @@ other_remains Down h = refl
 
 -- ---- a hold of the other side stands on after a shift, while shifts are left
 held_on : (s : State) (c : ShiftLine) (place : ℕ) (start : Seconds) → Every Fit s.lines → Judged s → 0 < (onward s c).left
-    → hold_at (other c.side) s place ≡ Since start → hold_at (other c.side) (onward s c) place ≡ Since start
+    → hold_at (other c.side) s place ≡ Some start → hold_at (other c.side) (onward s c) place ≡ Some start
 held_on s c place start f h z e =
     let side = other c.side in
     (onward_life s c side place).goes_on start (rw (left-onward s c) at z)

@@ -1,5 +1,6 @@
 -- Serving, one event and a whole list of byte strings in words: what is computed satisfies them, nothing else does, and a refused event
 -- can be struck out. Assumes nothing.
+use Rattle.std.specs.Prelude.{Ok, Err}
 use mathlib.Core.Path.{◌≡◌, refl, sym, ap, ◌∙◌, subst}
 use mathlib.Core.List.{List, [], ◌∷◌, ◌++◌}
 use mathlib.Core.Logic.{◌↔◌}
@@ -67,7 +68,7 @@ serves_rest {t} {n = n} {ds = ds} (first {cs = cs} f p r) (first g q k) =
     serves_rest r (subst (λ (j : State). Serves t j (cs ++ ds) n) (shifted_one q p) k)
 
 -- ---- one event
-pub is-event : {s : State} {b : List ℕ} → EventAnswered s b EventAnswer.Accepted → IsEvent b
+pub is-event : {s : State} {b : List ℕ} → EventAnswered s b (Ok tt) → IsEvent b
 is-event (tick_taken t i) = IsEvent.tick t
 is-event (quote_taken q i k c) = IsEvent.quote q
 
@@ -84,7 +85,7 @@ module _ (s : State) (v : Sound s) (d : Distinct (ids s.lines)) (b : List ℕ) (
   pub follows_right : {n : State} → Follows s b cs n → Right s (read b) (accepted cs) × (n ≡ next s (read b) (accepted cs))
   unfolding Right next
   follows_right {n} f =
-      let a : verdict s (read b) ≡ EventAnswer.Accepted = answered_verdict s b f.taken in
+      let a : verdict s (read b) ≡ Ok tt = answered_verdict s b f.taken in
       let r = serves_calls f.served f.all_served in
       let p : AppliedTo (after cs s) b n = subst (λ (k : State). AppliedTo k b n) (serves_after f.served) f.applied in
       ((a, rw (accepted-time s b a) r), applied-one (is-event f.taken) p (applied-after (is-event f.taken)))
@@ -92,7 +93,7 @@ module _ (s : State) (v : Sound s) (d : Distinct (ids s.lines)) (b : List ℕ) (
   pub right_follows : Right s (read b) (accepted cs) → Follows s b cs (next s (read b) (accepted cs))
   unfolding Right next
   right_follows r =
-      let a : EventAnswered s b EventAnswer.Accepted = subst (EventAnswered s b) r.0 (event_answered s b) in
+      let a : EventAnswered s b (Ok tt) = subst (EventAnswered s b) r.0 (event_answered s b) in
       let k : Calls t s cs = rw (accepted-time s b r.0) at r.1 in
       record {
         taken = a;
@@ -133,7 +134,7 @@ answers_words s (b ∷ bs) (accepted cs ∷ rs) v d h =
     let f = right_follows s v d b cs h.0 in
     taken f (answers_words (next s (read b) (accepted cs)) bs rs (next-sound s (read b) (accepted cs) v h.0) (follows_distinct d f) h.1)
 answers_words s (b ∷ bs) (refused why ∷ rs) v d h =
-    let e : verdict s (read b) ≡ EventAnswer.Refused why = unfold Right in h.0 in
+    let e : verdict s (read b) ≡ Err why = unfold Right in h.0 in
     turned_away (subst (EventAnswered s b) e (event_answered s b)) (answers_words s bs rs v d h.1)
 
 -- ---- at most one, from any state
@@ -145,13 +146,13 @@ follows_one {s} {m} {n} {b} {cs} {ds} f g =
     let same : f.between ≡ g.between = serves_after f.served ∙ ap (λ (k : List ShiftLine). after k s) e ∙ sym (serves_after g.served) in
     (e, applied-one (is-event f.taken) (subst (λ (k : State). AppliedTo k b m) same f.applied) g.applied)
 
-pub taken_not_refused : {s : State} {b : List ℕ} {why : EventReason} → EventAnswered s b EventAnswer.Accepted → EventAnswered s b (EventAnswer.Refused why) → ⊥
+pub taken_not_refused : {s : State} {b : List ℕ} {why : EventReason} → EventAnswered s b (Ok tt) → EventAnswered s b (Err why) → ⊥
 taken_not_refused {s} {b} p q = not-accepted (sym (answered_verdict s b q) ∙ answered_verdict s b p)
 
-why_one : {s : State} {b : List ℕ} {why whence : EventReason} → EventAnswered s b (EventAnswer.Refused why) → EventAnswered s b (EventAnswer.Refused whence)
+why_one : {s : State} {b : List ℕ} {why whence : EventReason} → EventAnswered s b (Err why) → EventAnswered s b (Err whence)
     → why ≡ whence
 why_one {s} {b} {why} {whence} p q =
-    let e : EventAnswer.Refused why ≡ EventAnswer.Refused whence = sym (answered_verdict s b p) ∙ answered_verdict s b q in
+    let e : Err why ≡ Err whence = sym (answered_verdict s b p) ∙ answered_verdict s b q in
     cc
 
 pub words_one : {s m n : State} {bs : List (List ℕ)} {rs qs : List Answer} → AnswersInWords s bs rs m → AnswersInWords s bs qs n → (rs ≡ qs) × (m ≡ n)
@@ -203,7 +204,7 @@ split_words (turned_away v r) (turned_away w k) =
     record { more = s.more; is = λ i. refused (e i) ∷ s.is i; there = s.there }
 
 pub struck_out : {o m n : State} {past rest : List (List ℕ)} {told qs : List Answer} {b : List ℕ} {why : EventReason} → AnswersInWords o past told m
-    → EventAnswered m b (EventAnswer.Refused why) → AnswersInWords o (past ++ b ∷ rest) qs n ↔ Struck o past told why rest qs n
+    → EventAnswered m b (Err why) → AnswersInWords o (past ++ b ∷ rest) qs n ↔ Struck o past told why rest qs n
 struck_out {o} {m} {n} {past} {rest} {told} {qs} {b} {why} h v = (
   λ k. let s = split_words h k in go s.is s.there,
   λ k. subst (λ (rs : List Answer). AnswersInWords o (past ++ b ∷ rest) rs n) (sym k.answers) (joined_words h (turned_away v (rest_words h k.without))),

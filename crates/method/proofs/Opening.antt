@@ -1,4 +1,5 @@
 -- The ranges of every number of an opened line. Assumes nothing.
+use Rattle.std.specs.Prelude.{Ok, Err}
 use mathlib.Core.Path.{◌≡◌, refl, subst}
 use mathlib.Core.Bool.{Bool, true, false, cond}
 use mathlib.Core.List.{List}
@@ -95,20 +96,20 @@ module _ (shift : Millionths) (y : ℕ) (c : Contract) (s : Between 1 whole shif
         holds = refl;
       }
 
-not_opened : {why : TableReason} {l : Line} → LineAnswer.Refused why ≡ LineAnswer.Opened l → ⊥
+not_opened : {why : TableReason} {l : Line} → Err why ≡ Ok l → ⊥
 not_opened e = let z : ◌≡◌ {A = ℕ} 0 1 = cc in omega arith
 
-fields_met : (c : Contract) {onward : LineAnswer} {l : Line} → if_fields_good (fields_answer c) onward ≡ LineAnswer.Opened l
-    → ContractIn c × (onward ≡ LineAnswer.Opened l)
+fields_met : (c : Contract) {onward : LineAnswer} {l : Line} → if_fields_good (fields_answer c) onward ≡ Ok l
+    → ContractIn c × (onward ≡ Ok l)
 fields_met c {onward} {l} =
-    by_fields c (λ a. a ≡ LineAnswer.Opened l → ContractIn c × (onward ≡ LineAnswer.Opened l)) (λ r e. (r, e))
+    by_fields c (λ a. a ≡ Ok l → ContractIn c × (onward ≡ Ok l)) (λ r e. (r, e))
     (λ before f rest p r n e. absurd (not_opened e))
 
-same_line : {k l : Line} → LineAnswer.Opened k ≡ LineAnswer.Opened l → k ≡ l
+same_line : {k l : Line} → ◌≡◌ {A = LineAnswer} (Ok k) (Ok l) → k ≡ l
 same_line e = cc
 
 pub open_line_in : (shift : Millionths) (keys : List Key) (earlier : List Line) (c : Contract) (l : Line) → Between 1 whole shift.0
-    → open_line shift keys earlier c ≡ LineAnswer.Opened l → LineIn l
+    → open_line shift keys earlier c ≡ Ok l → LineIn l
 unfolding open_line opened_with id_good
 open_line_in shift keys earlier c l s e =
     let fields = fields_met c e in

@@ -1,5 +1,6 @@
 -- A shift of one side ends no pressure on the other: it takes its own limit outward or leaves it, and so the zone near the other one does
 -- not shrink. This asks of a line that its half-move is not negative and that its lower limit keeps the floor. Assumes nothing.
+use Rattle.std.specs.Prelude.{None, Some}
 use mathlib.Core.Path.{◌≡◌, refl}
 use mathlib.Core.Bool.{Bool, true, false, not, ◌&&◌}
 use mathlib.Core.List.{List, [], ◌∷◌, map}
@@ -10,7 +11,7 @@ use lib.ListN.{get_or}
 use lib.Signed.{lt_z, ≤ℤ_refl, ◌≤ℤ◌, ◌<ℤ◌}
 use Rattle.numbers.proofs.Halves.{zarith, le-halves, add_is, sub_is, lmul_is}
 use Rattle.numbers.proofs.Tests.{lt-true, true-lt}
-use Rattle.method.specs.words.Types.{Side, Up, Down, Seconds, Millionths, Market, Limits, Price, Absent, Given, Line, ShiftLine, State, steps, blank}
+use Rattle.method.specs.words.Types.{Side, Up, Down, Seconds, Millionths, Market, Limits, Price, Line, ShiftLine, State, steps, blank}
 use Rattle.method.specs.words.Ranges.{whole, permits_negative, under_watch, Every}
 use Rattle.method.specs.words.Bounds.{bound}
 use Rattle.method.specs.words.Pressure.{close, price, presses}
@@ -96,15 +97,15 @@ and_on false f e = e
 up_on : (near : Millionths) (k n : Limits) (p : Price) → n.upper ≡ k.upper → n.lower.0 ≤ℤ k.lower.0 → close Up near k p ≡ true
     → close Up near n p ≡ true
 unfolding close
-up_on near k n Absent u h e = e
-up_on near k n (Given bid) u h e =
+up_on near k n None u h e = e
+up_on near k n (Some bid) u h e =
     rw u (wider near ((k.upper.0 -ℤ bid.0) *ℤ pos whole) _ _ (from-below k.upper.0 k.lower.0 n.lower.0 h) e)
 
 down_on : (near : Millionths) (k n : Limits) (p : Price) → n.lower ≡ k.lower → n.frozen ≡ k.frozen → k.upper.0 ≤ℤ n.upper.0
     → close Down near k p ≡ true → close Down near n p ≡ true
 unfolding close
-down_on near k n Absent w g h e = e
-down_on near k n (Given ask) w g h e =
+down_on near k n None w g h e = e
+down_on near k n (Some ask) w g h e =
     let more = from-above k.upper.0 n.upper.0 k.lower.0 h in
     rw (w, g) (and_on (not k.frozen) (wider near ((ask.0 -ℤ k.lower.0) *ℤ pos whole) _ _ more) e)
 

@@ -6,7 +6,7 @@ use Rattle.method.specs.words.Ranges.{ContractIn}
 use Rattle.method.specs.words.Tables.{Fault}
 use Rattle.method.specs.words.Events.{IsQuote, malformed, absent_not_zero, price_out_of_range}
 use Rattle.method.specs.laws.Parted.{ContractOnce, FieldParted, QuoteOnce, EventOnce, RefusedUnread, NoEventParted}
-use Rattle.method.specs.computed.Types.{Event}
+use Rattle.method.specs.computed.Types.{ReadEvent}
 use Rattle.method.proofs.Fields.{by_first}
 use Rattle.method.proofs.EventAnswered.{Says, tick_or_quote, says}
 
@@ -78,7 +78,7 @@ no_event_parted s b = (unread, λ n. go n (says b))
     unread (RefusedUnread.out_of_range (price_out_of_range l a n)) (EventOnce.tick t) = tick_or_quote b t.flags l
     unread (RefusedUnread.out_of_range (price_out_of_range l a n)) (EventOnce.quote q) = n (quote_now b q).prices
 
-    go : (EventOnce b → ⊥) → {e : Event} → Says b e → RefusedUnread s b
+    go : (EventOnce b → ⊥) → {e : ReadEvent} → Says b e → RefusedUnread s b
     go n (Says.says_nothing t q) = RefusedUnread.malformed (malformed t q)
     go n (Says.says_absent l a) = RefusedUnread.absent (absent_not_zero l a)
     go n (Says.says_beyond l a p) = RefusedUnread.out_of_range (price_out_of_range l a p)

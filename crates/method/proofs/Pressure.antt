@@ -1,5 +1,6 @@
 -- A line whose bid is at most its ask presses on at most one side, where the near share is at most one half, as the table's is.
 -- Assumes nothing.
+use Rattle.std.specs.Prelude.{None, Some}
 use mathlib.Core.Path.{◌≡◌}
 use mathlib.Core.Bool.{true, not, false≢true}
 use Prim.Native.Nat.{ℕ, ◌/◌, ◌≤◌}
@@ -8,7 +9,7 @@ use lib.IntN.{ℤ, pos, negsuc, ◌-ℤ◌, ◌*ℤ◌}
 use lib.Signed.{◌≤ℤ◌, ◌<ℤ◌}
 use Rattle.numbers.proofs.Halves.{zarith, sub_is, mul_is, lmul_is}
 use Rattle.numbers.proofs.Tests.{both, lt-true, le-true}
-use Rattle.method.specs.words.Types.{Up, Down, Millionths, Limits, Price, Absent, Given, Line}
+use Rattle.method.specs.words.Types.{Up, Down, Millionths, Limits, Price, Line}
 use Rattle.method.specs.words.Ranges.{whole, under_watch}
 use Rattle.method.specs.words.Pressure.{close, presses}
 use Rattle.method.specs.computed.Event.{not_crossed}
@@ -39,9 +40,9 @@ too_near u l b a n h w q up down =
 close_once : (near : Millionths) (k : Limits) (bid ask : Price) → near.0 ≤ half → k.lower.0 ≤ℤ k.upper.0 → not_crossed bid ask ≡ true
     → close Up near k bid ≡ true → close Down near k ask ≡ true → ⊥
 unfolding close not_crossed
-close_once near k Absent ask h w q up down = false≢true up
-close_once near k (Given bid) Absent h w q up down = false≢true down
-close_once near k (Given bid) (Given ask) h w q up down =
+close_once near k None ask h w q up down = false≢true up
+close_once near k (Some bid) None h w q up down = false≢true down
+close_once near k (Some bid) (Some ask) h w q up down =
     too_near k.upper.0 k.lower.0 bid.0 ask.0 near.0 h w (le-true bid.0 ask.0 q) (lt-true _ _ up)
     (lt-true _ _ (both (not k.frozen) _ down).1)
 

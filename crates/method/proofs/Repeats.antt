@@ -1,4 +1,5 @@
 -- An event that tells nothing new, a tick or a quote that repeats the standing one, sets the clock and changes nothing else. Assumes nothing.
+use Rattle.std.specs.Prelude.{Ok, Err}
 use mathlib.Core.Path.{◌≡◌, refl, sym, ap, ◌∙◌}
 use mathlib.Core.Bool.{Bool, true, false, cond}
 use mathlib.Core.List.{List, [], ◌∷◌}
@@ -10,7 +11,7 @@ use Rattle.method.specs.words.Types.{Millionths, Price, Book, Line, ShiftLine, S
 use Rattle.method.specs.words.Ranges.{Every}
 use Rattle.method.specs.words.Books.{PriceSaid, BookSaid}
 use Rattle.method.specs.laws.Ticks.{NothingNew, tick, repeat}
-use Rattle.method.specs.computed.Types.{Quote, Event, Damaged, Tick, Quoted}
+use Rattle.method.specs.computed.Types.{Quote, ReadEvent, Tick, Quoted}
 use Rattle.method.specs.computed.Judge.{judge_line}
 use Rattle.method.specs.computed.Shift.{moved_line, shift_line, shifted, onward, after}
 use Rattle.method.specs.computed.Event.{price_of, read, screened, verdict, with_book, quoted_line, quoted, applied}
@@ -31,10 +32,10 @@ book_of q = record { bid = q.bid; ask = q.ask }
 abbrev SaidBefore : Quote → Line → Type 0
 SaidBefore q l = l.terms.id ≡ q.id → l.book ≡ book_of q
 
-unfoldable pub Still : State → Event → Type 0
-Still s (Damaged why) = Unit {0}
-Still s (Tick t) = Unit {0}
-Still s (Quoted q) = Every (SaidBefore q) s.lines
+unfoldable pub Still : State → ReadEvent → Type 0
+Still s (Err why) = Unit {0}
+Still s (Ok (Tick t)) = Unit {0}
+Still s (Ok (Quoted q)) = Every (SaidBefore q) s.lines
 
 price-is : (present : Bool) (z : ℤ) (p : Price) → PriceSaid present z p → p ≡ price_of present z
 price-is true z p r = r.given refl
@@ -50,14 +51,14 @@ still_read s b (repeat r) =
     rw (read_quote-is s b r.quote) (every_weaker _ (SaidBefore (the_quote b)) (λ l h e. book-is b l.book (h e)) s.lines r.standing)
 
 -- ---- a shift changes no id and no book
-still_onward : (e : Event) (s : State) (c : ShiftLine) → Still s e → Still (onward s c) e
+still_onward : (e : ReadEvent) (s : State) (c : ShiftLine) → Still s e → Still (onward s c) e
 unfolding Still shifted shift_line judge_line moved_line
-still_onward (Damaged why) s c h = tt
-still_onward (Tick t) s c h = tt
-still_onward (Quoted q) s c h =
+still_onward (Err why) s c h = tt
+still_onward (Ok (Tick t)) s c h = tt
+still_onward (Ok (Quoted q)) s c h =
     every_map (SaidBefore q) (SaidBefore q) (shift_line s.near (s.left - 1) c.side c.second) (λ l k. k) s.lines h
 
-pub still_after : (e : Event) (cs : List ShiftLine) (s : State) → Still s e → Still (after cs s) e
+pub still_after : (e : ReadEvent) (cs : List ShiftLine) (s : State) → Still s e → Still (after cs s) e
 unfolding after
 still_after e [] s h = h
 still_after e (c ∷ cs) s h = still_after e cs (onward s c) (still_onward e s c h)
@@ -81,8 +82,8 @@ module _ (near : Millionths) (left : ℕ) (q : Quote) where
       go true e more = let p = line_same l xs.0 (hs.0 (eqb-true _ _ e)) in cc
       go false e more = cc
 
-pub still_applied : (e : Event) (s r : State) → verdict r e ≡ EventAnswer.Accepted → Judged s → Still s e → applied e s ≡ at-clock (time e) s
+pub still_applied : (e : ReadEvent) (s r : State) → verdict r e ≡ Ok tt → Judged s → Still s e → applied e s ≡ at-clock (time e) s
 unfolding applied verdict screened Still
-still_applied (Damaged why) s r v x h = absurd (not-accepted v)
-still_applied (Tick t) s r v x h = refl
-still_applied (Quoted q) s r v x h = rw (quoted-same s.near s.left q s.lines x h)
+still_applied (Err why) s r v x h = absurd (not-accepted v)
+still_applied (Ok (Tick t)) s r v x h = refl
+still_applied (Ok (Quoted q)) s r v x h = rw (quoted-same s.near s.left q s.lines x h)

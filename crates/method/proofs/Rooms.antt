@@ -1,4 +1,5 @@
 -- The ranges of one line: they hold at opening, and are kept by a shift, which uses one of those left, and by a quote. Assumes nothing.
+use Rattle.std.specs.Prelude.{None, Some}
 use mathlib.Core.Bool.{Bool, true, false}
 use Prim.Native.Nat.{ℕ, suc, ◌≤◌, ◌<◌}
 use native.Mathlib.Omega.{arith}
@@ -9,7 +10,7 @@ use Rattle.numbers.specs.Ranges.{Within, Span}
 use Rattle.numbers.proofs.Halves.{zarith, apart, add_is}
 use Rattle.numbers.proofs.Linear.{≤ℤ_trans}
 use Rattle.numbers.proofs.Ranges.{within_more, within_pos, within_add, within_sub, within_mul, floor_within, ceiling_within, within_squeeze}
-use Rattle.method.specs.words.Types.{Side, Up, Down, Seconds, Millionths, Factors, Terms, Market, Limits, Absent, Book, Hold, Idle, Since, Holds, Line, steps}
+use Rattle.method.specs.words.Types.{Side, Up, Down, Seconds, Millionths, Factors, Terms, Market, Limits, Book, Hold, Holds, Line, steps}
 use Rattle.method.specs.words.Ranges.{longest_session, most_shifts}
 use Rattle.method.specs.words.Bounds.{market_bound, factor, interest, outward, bound}
 use Rattle.method.specs.computed.Types.{Watch, Quote}
@@ -102,7 +103,7 @@ market-moved side left t m few s r =
     }
 
 -- ---- a shift: the holds
-idle_in : HoldIn Idle
+idle_in : HoldIn None
 unfolding HoldIn
 idle_in = tt
 
@@ -113,8 +114,8 @@ ended_in Down r = record { up = r.up; down = idle_in }
 judged_in : (now : Seconds) (pressed : Bool) (h : Hold) → now.0 ≤ longest_session → HoldIn h → HoldIn (judged now pressed h)
 unfolding judged HoldIn
 judged_in now false h e i = tt
-judged_in now true Idle e i = e
-judged_in now true (Since start) e i = i
+judged_in now true None e i = e
+judged_in now true (Some start) e i = i
 
 pub judge_in : (w : Watch) (near : Millionths) (left : ℕ) (now : Seconds) (k : Limits) (b : Book) (h : Holds) → now.0 ≤ longest_session → HoldsIn h
     → HoldsIn (judge w near left now k b h)
@@ -161,7 +162,7 @@ room-quoted near left q h bid ask r =
     room-judged near left q.time h
     (record { terms = r.terms; market = r.market; limits = r.limits; book = record { bid = bid; ask = ask }; holds = r.holds })
 
-absent_in : PriceIn Absent
+absent_in : PriceIn None
 unfolding PriceIn
 absent_in = tt
 

@@ -1,10 +1,11 @@
 -- Rule 2: a theorem for each statement of words/Rules and laws/Rule2. Assumes nothing.
+use Rattle.std.specs.Prelude.{Some}
 use mathlib.Core.Path.{◌≡◌, sym, ap, ◌∙◌, subst}
 use mathlib.Core.List.{List, ◌∷◌, ◌++◌}
 use mathlib.Core.Logic.{◌⊎◌}
 use Prim.Native.Nat.{ℕ, ◌≤◌}
 use native.Mathlib.Omega.{arith}
-use Rattle.method.specs.words.Types.{Since, ShiftLine, State, seconds}
+use Rattle.method.specs.words.Types.{ShiftLine, State, seconds}
 use Rattle.method.specs.words.Wire.{word}
 use Rattle.method.specs.words.Ranges.{Every}
 use Rattle.method.specs.words.Tables.{opening_state}
@@ -146,7 +147,7 @@ module _ {From : State → Type 0} (proper : (o : State) → From o → Proper o
       let all = next-timely s (read b) (cs ++ c ∷ ds) (sound o p h) r in
       let there = pressed_since o past told (read b) cs (c ∷ ds) c.side by.place by.start p.sound t.answers
       (subst (λ (j : State). Right j (read b) (accepted (cs ++ c ∷ ds))) t.is r)
-      (subst (λ (j : State). hold_at c.side j by.place ≡ Since by.start) (e ∙ ap (after cs) t.is) by.held) in
+      (subst (λ (j : State). hold_at c.side j by.place ≡ Some by.start) (e ∙ ap (after cs) t.is) by.held) in
       let before = stages_are p.sound p.distinct h in
       let during = shift_stages_are k ∙ ap (λ (j : State). shift-stages-of j cs) t.is in
       record {

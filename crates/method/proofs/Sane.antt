@@ -1,10 +1,11 @@
 -- The ranges of a state: they hold at opening, and are kept by a shift and by an event. Assumes nothing.
+use Rattle.std.specs.Prelude.{Ok, Err}
 use mathlib.Core.Path.{◌≡◌}
 use Prim.Native.Nat.{suc, ◌-◌, ◌≤◌, ◌<◌}
 use native.Mathlib.Omega.{arith}
 use Rattle.method.specs.words.Types.{Side, Seconds, State, EventAnswer}
 use Rattle.method.specs.words.Ranges.{longest_session}
-use Rattle.method.specs.computed.Types.{Event, Damaged, Tick, Quoted}
+use Rattle.method.specs.computed.Types.{ReadEvent, Tick, Quoted}
 use Rattle.method.specs.computed.Head.{most_left}
 use Rattle.method.specs.computed.Shift.{shift_line, shifted}
 use Rattle.method.specs.computed.Event.{verdict, applied}
@@ -43,22 +44,22 @@ sane-shifted side now s h g v =
     fewer : suc (most_left (shifted side now s)) ≤ most_left s
     fewer = omega (arith, most-shifted side now s h)
 
-pub sane-applied : (e : Event) (s : State) → verdict s e ≡ EventAnswer.Accepted → EventIn e → Sane s → Sane (applied e s)
+pub sane-applied : (e : ReadEvent) (s : State) → verdict s e ≡ Ok tt → EventIn e → Sane s → Sane (applied e s)
 unfolding applied EventIn
-sane-applied (Damaged why) s h i v = v
-sane-applied (Tick t) s h i v =
-    let most = most-applied (Tick t) s in
+sane-applied (Err why) s h i v = v
+sane-applied (Ok (Tick t)) s h i v =
+    let most = most-applied (Ok (Tick t)) s in
     record {
       hold = v.hold;
       end = v.end;
-      clock = (on_time s (Tick t) h).most;
+      clock = (on_time s (Ok (Tick t)) h).most;
       left = omega (arith, v.left, most);
       near = v.near;
       rooms = every_weaker _ _ (λ l. room_fewer most) s.lines v.rooms;
     }
-sane-applied (Quoted q) s h i v =
-    let w = on_time s (Quoted q) h in
-    let most = most-applied (Quoted q) s in
+sane-applied (Ok (Quoted q)) s h i v =
+    let w = on_time s (Ok (Quoted q)) h in
+    let most = most-applied (Ok (Quoted q)) s in
     record {
       hold = v.hold;
       end = v.end;
@@ -66,7 +67,7 @@ sane-applied (Quoted q) s h i v =
       left = omega (arith, v.left, most);
       near = v.near;
       rooms =
-          every_quoted s.near s.left q (Room (most_left (applied (Quoted q) s)))
+          every_quoted s.near s.left q (Room (most_left (applied (Ok (Quoted q)) s)))
           (λ l. room-quoted s.near s.left q (omega (arith, w.most, v.end)) i.0 i.1) s.lines
           (every_weaker _ _ (λ l. room_fewer most) s.lines v.rooms);
     }

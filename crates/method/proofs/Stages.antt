@@ -1,17 +1,18 @@
 -- The stages of a run form a chain: at each, a hold began there or stood at the one before. So the hold behind a shift line has stood, and
 -- its line has pressed, at every stage since its start. Assumes nothing.
+use Rattle.std.specs.Prelude.{Some}
 use mathlib.Core.Path.{◌≡◌, refl, sym, ap, ◌∙◌}
 use mathlib.Core.Logic.{◌⊎◌, inl, inr, ⊎_elim}
 use mathlib.Core.List.{List, [], ◌∷◌, ◌++◌}
 use Prim.Native.Nat.{ℕ, ◌≤◌, ◌<◌}
 use native.Mathlib.Omega.{arith}
-use Rattle.method.specs.words.Types.{Side, Seconds, Since, ShiftLine, State}
+use Rattle.method.specs.words.Types.{Side, Seconds, ShiftLine, State}
 use Rattle.method.specs.words.Ranges.{Every}
 use Rattle.method.specs.words.Holds.{hold_at}
 use Rattle.method.specs.words.Sessions.{Answer, accepted, refused}
 use Rattle.method.specs.laws.Seen.{Precedes, before, up_down, Rising, Timely}
 use Rattle.method.specs.laws.Stages.{Stage, Pressing, Begun, Throughout}
-use Rattle.method.specs.computed.Types.{Event}
+use Rattle.method.specs.computed.Types.{ReadEvent}
 use Rattle.method.specs.computed.Shift.{onward, after}
 use Rattle.method.specs.computed.Event.{read, next}
 use Rattle.method.specs.computed.Relation.{time, Right, Answers, reached}
@@ -26,7 +27,7 @@ unfoldable pub shift_stages : State → List ShiftLine → List Stage
 shift_stages s [] = []
 shift_stages s (c ∷ cs) = record { second = c.second; state = onward s c } ∷ shift_stages (onward s c) cs
 
-unfoldable pub event-stages : State → Event → Answer → List Stage
+unfoldable pub event-stages : State → ReadEvent → Answer → List Stage
 event-stages s e (accepted cs) = shift_stages s cs ++ record { second = time e; state = next s e (accepted cs) } ∷ []
 event-stages s e (refused why) = []
 
@@ -39,8 +40,8 @@ stages s (b ∷ bs) (a ∷ rs) = event-stages s (read b) a ++ stages (next s (re
 record Follows (m n : Stage) : Type 0 where
   not-before : m.second.0 ≤ n.second.0
   judged : Judged n.state
-  held : (side : Side) (place : ℕ) (start : Seconds) → hold_at side n.state place ≡ Since start
-      → (start ≡ n.second) ⊎ (hold_at side m.state place ≡ Since start)
+  held : (side : Side) (place : ℕ) (start : Seconds) → hold_at side n.state place ≡ Some start
+      → (start ≡ n.second) ⊎ (hold_at side m.state place ≡ Some start)
 
 unfoldable Chain : Stage → List Stage → Type 0
 Chain m [] = Unit {0}
@@ -63,7 +64,7 @@ last-append m (n ∷ ns) os = last-append n ns os
 -- ---- along a chain, a hold that stands at the last stage has stood since its start
 module _ (side : Side) (place : ℕ) (start : Seconds) where
   abbrev Held : Stage → Type 0
-  Held m = hold_at side m.state place ≡ Since start
+  Held m = hold_at side m.state place ≡ Some start
 
   -- at all stages later than the start
   stood : (m : Stage) (ns : List Stage) → Chain m ns → Held (last m ns)
@@ -168,7 +169,7 @@ module _ (s : State) (t : Seconds) (cs : List ShiftLine) (timely : Every (Timely
   served-last l = shift-last s.clock t s cs l (every_weaker _ _ (λ c k. k.by_event) cs timely)
 
 -- all of them, and the event
-module _ (s : State) (e : Event) (cs : List ShiftLine) (v : Sound s) (r : Right s e (accepted cs)) where
+module _ (s : State) (e : ReadEvent) (cs : List ShiftLine) (v : Sound s) (r : Right s e (accepted cs)) where
   follows : Follows (last (now s) (shift_stages s cs)) (record { second = time e; state = next s e (accepted cs) })
   follows =
       let end = served-last s (time e) cs (next-timely s e cs v r) (right-from_clock s e cs r) in
@@ -190,7 +191,7 @@ module _ (s : State) (e : Event) (cs : List ShiftLine) (v : Sound s) (r : Right 
       unfold event-stages last in
       last-append (now s) (shift_stages s cs) _ ∙ (λ i. record { second = sym (next-clock s e cs r) i; state = next s e (accepted cs) })
 
-event_chain : (s : State) (e : Event) (a : Answer) → Sound s → Right s e a
+event_chain : (s : State) (e : ReadEvent) (a : Answer) → Sound s → Right s e a
     → Chain (now s) (event-stages s e a) × (last (now s) (event-stages s e a) ≡ now (next s e a))
 event_chain s e (refused why) v r = unfold event-stages Chain last next in (tt, refl)
 event_chain s e (accepted cs) v r = (accepted_chain s e cs v r, accepted-last s e cs v r)
@@ -222,9 +223,9 @@ unfolding Rising
 rising_front [] ds h = tt
 rising_front (c ∷ cs) ds h = (every_front (Precedes c) cs ds h.0, rising_front cs ds h.1)
 
-pub pressed_since : (o : State) (past : List (List ℕ)) (told : List Answer) (e : Event) (cs ds : List ShiftLine)
+pub pressed_since : (o : State) (past : List (List ℕ)) (told : List Answer) (e : ReadEvent) (cs ds : List ShiftLine)
     → (side : Side) (place : ℕ) (start : Seconds) → Sound o → Answers o past told
-    → Right (reached o past told) e (accepted (cs ++ ds)) → hold_at side (after cs (reached o past told)) place ≡ Since start
+    → Right (reached o past told) e (accepted (cs ++ ds)) → hold_at side (after cs (reached o past told)) place ≡ Some start
     → let ms : List Stage = stages o past told ++ shift_stages (reached o past told) cs in
     Begun side place start ms ⊎ Throughout side place start o ms
 pressed_since o past told e cs ds side place start v h r held =

@@ -1,8 +1,8 @@
 -- What an accepted table tells: the ranges of the header, of the keys, and of every opened line. Assumes nothing.
+use Rattle.std.specs.Prelude.{Ok, Err, Option, None, Some}
 use mathlib.Core.Path.{◌≡◌, refl, ap, subst, ◌∙◌}
 use mathlib.Core.Bool.{Bool, true, false, cond}
 use mathlib.Core.List.{List, [], ◌∷◌, ◌++◌}
-use mathlib.Core.Option.{Option, none, some}
 use Prim.Native.Nat.{ℕ, zero, suc, ◌+◌, ◌≤◌}
 use native.Mathlib.Omega.{arith}
 use lib.Dec.{leb, eqb}
@@ -51,15 +51,15 @@ key_in before k e =
     let days = both _ _ rate.0 in
     record { days = in_range-true 1 most_days k.days days.0; rising = ltb-true before k.days days.1; rate = leb-true k.rate.0 largest_rate rate.1 }
 
-no_line : {n : ℕ} → ◌≡◌ {A = Option ℕ} (some n) none → ⊥
+no_line : {n : ℕ} → ◌≡◌ {A = Option ℕ} (Some n) None → ⊥
 no_line e = let z : ◌≡◌ {A = ℕ} 0 1 = cc in omega arith
 
-pub keys_in : (line before : ℕ) (keys : List Key) → bad_key line before keys ≡ none → KeysIn before keys
+pub keys_in : (line before : ℕ) (keys : List Key) → bad_key line before keys ≡ None → KeysIn before keys
 unfolding bad_key KeysIn
 keys_in line before [] e = tt
 keys_in line before (k ∷ keys) e = go (key_good before k) refl e (keys_in (suc line) k.days keys)
   where
-    go : (b : Bool) → key_good before k ≡ b → cond b (bad_key (suc line) k.days keys) (some line) ≡ none → (bad_key (suc line) k.days keys ≡ none → KeysIn k.days keys)
+    go : (b : Bool) → key_good before k ≡ b → cond b (bad_key (suc line) k.days keys) (Some line) ≡ None → (bad_key (suc line) k.days keys ≡ None → KeysIn k.days keys)
         → KeyIn before k × KeysIn k.days keys
     go true q e more = (key_in before k q, more e)
     go false q e more = absurd (no_line e)
@@ -92,8 +92,8 @@ open_lines_in h keys line earlier (c ∷ cs) s i ok e =
         → if_opened a line (λ (l : Line). open_lines h keys (suc line) (earlier ++ (l ∷ [])) cs) ≡ opened s
         → ((l : Line) → Every LineIn (earlier ++ (l ∷ [])) → open_lines h keys (suc line) (earlier ++ (l ∷ [])) cs ≡ opened s → Lines (length (earlier ++ (l ∷ []))) (length cs) h s)
         → Lines (length earlier) (length (c ∷ cs)) h s
-    go (LineAnswer.Opened l) q e rest = more l (rest l (every_last LineIn earlier l ok (open_line_in h.shift keys earlier c l i.shift q)) e)
-    go (LineAnswer.Refused why) q e rest = absurd (not_opened e)
+    go (Ok l) q e rest = more l (rest l (every_last LineIn earlier l ok (open_line_in h.shift keys earlier c l i.shift q)) e)
+    go (Err why) q e rest = absurd (not_opened e)
 
 -- ---- the table
 contracts-length : (b : List ℕ) (at n : ℕ) → length (contracts_at b at n) ≡ n
@@ -139,7 +139,7 @@ accepted-table b s e =
     go : (k : Option ℕ) → bad_key 1 0 (keys_at b 40 (header_of b).keys) ≡ k
         → if_keys_good k (open_lines (header_of b) (keys_at b 40 (header_of b).keys) 1 [] (contracts_at b (contracts_start (header_of b)) (header_of b).contracts)) ≡ opened s
         → 40 ≤ length b → laid_out (header_of b) (length b) ≡ true → HeaderIn (header_of b) → Accepted b s
-    go none q e long layout i =
+    go None q e long layout i =
         let h = header_of b in
         let cs = contracts_at b (contracts_start h) h.contracts in
         let r = open_lines_in h (keys_at b 40 h.keys) 1 [] cs s i (unfold Every in tt) e in
@@ -151,7 +151,7 @@ accepted-table b s e =
           opens = r.state;
           state = state_in h (length cs) s i (contracts-length b (contracts_start h) h.contracts) r;
         }
-    go (some line) q e long layout i = absurd (not_opened e)
+    go (Some line) q e long layout i = absurd (not_opened e)
 
 pub table-most : (table : List ℕ) (o : State) → opening table ≡ opened o → o.left ≡ (header_of table).most
 unfolding opening_state

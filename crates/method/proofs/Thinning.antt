@@ -1,5 +1,6 @@
 -- What a list is less some of its events: less none, less refused ones, less one that tells nothing new and was put in; and that it comes to the
 -- same as the whole. Assumes nothing.
+use Rattle.std.specs.Prelude.{Ok}
 use mathlib.Core.Path.{◌≡◌, refl, sym, ap, ◌∙◌, subst}
 use mathlib.Core.List.{List, [], ◌∷◌, ◌++◌, append_assoc}
 use Prim.Native.Nat.{ℕ, ◌≤◌}
@@ -21,7 +22,7 @@ use Rattle.method.proofs.Looks.{taken-later, taken-sooner, two_looks}
 use Rattle.method.proofs.OneSession.{follows_right, right_follows, follows_one, taken_not_refused, words_one, told-from, run_in_words}
 
 -- ---- one event
-accepts : (s : State) (b : List ℕ) → verdict s (read b) ≡ EventAnswer.Accepted → Accepts s b
+accepts : (s : State) (b : List ℕ) → verdict s (read b) ≡ Ok tt → Accepts s b
 accepts s b v = subst (EventAnswered s b) v (event_answered s b)
 
 proper_next : {s m : State} {b : List ℕ} {cs : List ShiftLine} → Proper s → Follows s b cs m → Proper m
@@ -83,7 +84,7 @@ with_it s b between f rest p put =
     let a = answered_verdict s b put.acceptable in
     let c = answered_verdict s f put.later in
     let l : (time (read b)).0 ≤ (time (read f)).0 = rw (accepted-time s b a, accepted-time s f c) put.to_the_later in
-    let later : verdict m (read f) ≡ EventAnswer.Accepted = rw e (taken-later s p.sound (read b) (read f) took.cs still a l c) in
+    let later : verdict m (read f) ≡ Ok tt = rw e (taken-later s p.sound (read b) (read f) took.cs still a l c) in
     let sooner : (d : List ℕ) → Accepts m d → Accepts s d
     = λ d y. accepts s d (taken-sooner s p.sound (read b) (read d) took.cs still a (rw e at (answered_verdict m d y))).1 in
     let refused_still = every_weaker (Refuses s) (Refuses m) (λ d n y. n (sooner d y)) between put.between_refused in

@@ -27,7 +27,7 @@ pub struct Header {
     pub shift: Millionths,
 }
 
-#[derive(Clone, Copy)]
+#[derive(Clone, Copy, Default)]
 pub struct Key {
     pub days: u32,
     pub rate: Millionths,
@@ -50,20 +50,21 @@ pub struct Contract {
 
 // ---- a line: five records, each changed by one kind of thing
 
-#[derive(Clone, Copy)]
+#[derive(Clone, Copy, Default, PartialEq, Eq, PartialOrd, Ord)]
 pub enum Side {
+    #[default]
     Up,
     Down,
 }
 
-#[derive(Clone, Copy)]
+#[derive(Clone, Copy, Default)]
 pub struct Factors {
     pub up: Billionths,
     pub down: Billionths,
 }
 
 // Fixed for the session.
-#[derive(Clone, Copy)]
+#[derive(Clone, Copy, Default)]
 pub struct Terms {
     pub id: u32,
     pub flags: u32,
@@ -72,7 +73,7 @@ pub struct Terms {
 }
 
 // Changed by every shift: the centre, and the half-width of each level.
-#[derive(Clone, Copy)]
+#[derive(Clone, Copy, Default)]
 pub struct Market {
     pub centre: Steps,
     pub half1: Steps,
@@ -81,41 +82,34 @@ pub struct Market {
 }
 
 // Changed by the shifts of one side each.
-#[derive(Clone, Copy)]
+#[derive(Clone, Copy, Default)]
 pub struct Limits {
     pub upper: Steps,
     pub lower: Steps,
     pub frozen: bool,
 }
 
-#[derive(Clone, Copy)]
-pub enum Price {
-    Absent,
-    Given(Steps),
-}
+// The price that stands on one side of a book, if there is one.
+pub type Price = Option<Steps>;
 
 // Changed by the contract's quotes.
-#[derive(Clone, Copy)]
+#[derive(Clone, Copy, Default)]
 pub struct Book {
     pub bid: Price,
     pub ask: Price,
 }
 
-// `Since` has the second at which pressure started.
-#[derive(Clone, Copy)]
-pub enum Hold {
-    Idle,
-    Since(Seconds),
-}
+// The second at which pressure started, where there is pressure.
+pub type Hold = Option<Seconds>;
 
 // Changed wherever pressure starts or ends.
-#[derive(Clone, Copy)]
+#[derive(Clone, Copy, Default)]
 pub struct Holds {
     pub up: Hold,
     pub down: Hold,
 }
 
-#[derive(Clone, Copy)]
+#[derive(Clone, Copy, Default)]
 pub struct Line {
     pub terms: Terms,
     pub market: Market,
@@ -126,7 +120,7 @@ pub struct Line {
 
 // ---- shifts
 
-#[derive(Clone, Copy)]
+#[derive(Clone, Copy, Default)]
 pub struct ShiftLine {
     pub second: Seconds,
     pub side: Side,
@@ -141,24 +135,24 @@ pub struct Due {
     pub place: usize,
 }
 
-// ---- refusals, and the answer to an event
+// ---- refusals
 
-// The fields of a contract that have a range, in the table's order: all but the id, which has a refusal of its own.
-#[derive(Clone, Copy)]
+// The fields of a contract that have a range, by their places in its line: all but the id, whose place is 9 and which has a refusal of its own.
+#[derive(Clone, Copy, PartialEq, Eq)]
 pub enum Field {
-    Price,
-    Spot,
-    Least,
-    Rate1,
-    Rate2,
-    Rate3,
-    Width,
-    Days,
-    Flags,
+    Price = 1,
+    Spot = 2,
+    Least = 3,
+    Rate1 = 4,
+    Rate2 = 5,
+    Rate3 = 6,
+    Width = 7,
+    Days = 8,
+    Flags = 10,
 }
 
 // Refusals 1 to 9, in the order of their numbers; 5 names the field at fault.
-#[derive(Clone, Copy)]
+#[derive(Clone, Copy, PartialEq, Eq)]
 pub enum TableReason {
     Length,
     Edition,
@@ -171,45 +165,33 @@ pub enum TableReason {
     Corridor,
 }
 
-// Refusals 10 to 16, in the order of their numbers.
-#[derive(Clone, Copy)]
+// Refusals 10 to 16, by their numbers.
+#[derive(Clone, Copy, PartialEq, Eq)]
 pub enum EventReason {
-    AfterEnd,
-    BeforeClock,
-    Malformed,
-    UnknownId,
-    Crossed,
-    AbsentNotZero,
-    PriceOutOfRange,
-}
-
-#[derive(Clone, Copy)]
-pub enum EventAnswer {
-    Accepted,
-    Refused(EventReason),
+    AfterEnd = 10,
+    BeforeClock = 11,
+    Malformed = 12,
+    UnknownId = 13,
+    Crossed = 14,
+    AbsentNotZero = 15,
+    PriceOutOfRange = 16,
 }
 
 // ==== of what is told
 
-// A refusal has its line, counted from 1, or 0 where the header is at fault.
-#[derive(Clone, Copy)]
-pub enum TableAnswer {
-    Opened,
-    Refused(TableReason, u32),
+// Why a table is refused, and at which of its lines, counted from 1; 0 where the header is at fault.
+#[derive(Clone, Copy, PartialEq, Eq)]
+pub struct TableRefusal {
+    pub reason: TableReason,
+    pub line: u32,
 }
 
-#[derive(Clone, Copy)]
-pub enum LimitsAnswer {
-    Standing(Limits),
-    Refused(EventReason),
-}
-
-#[derive(Clone, Copy)]
-pub enum PlaceAnswer {
+// Where an order price lies.
+#[derive(Clone, Copy, PartialEq, Eq)]
+pub enum Place {
     Below,
     Inside,
     Above,
-    Refused(EventReason),
 }
 
 // An upper and a lower bound of one kind.
@@ -226,12 +208,6 @@ pub struct HoldTimes {
     pub due: Seconds,
 }
 
-#[derive(Clone, Copy)]
-pub enum HoldReport {
-    NoHold,
-    Holding(HoldTimes),
-}
-
 // What stands on one line: the market bounds by level, the hold of each side, and of the session the shifts left and the clock.
 #[derive(Clone, Copy)]
 pub struct Report {
@@ -241,17 +217,11 @@ pub struct Report {
     pub level1: BothBounds,
     pub level2: BothBounds,
     pub level3: BothBounds,
-    pub up: HoldReport,
-    pub down: HoldReport,
+    pub up: Option<HoldTimes>,
+    pub down: Option<HoldTimes>,
     pub book: Book,
     pub left: u32,
     pub clock: Seconds,
-}
-
-#[derive(Clone, Copy)]
-pub enum ReportAnswer {
-    Standing(Report),
-    Refused(EventReason),
 }
 
 // ---- what the program prints
@@ -291,38 +261,12 @@ pub struct Quote {
     pub ask: Price,
 }
 
-// What a byte string says. `Damaged` is every one that is no event, with the refusal that says why.
+// What a byte string says where it is an event.
 #[derive(Clone, Copy)]
 pub enum Event {
-    Damaged(EventReason),
     Tick(Seconds),
     Quoted(Quote),
 }
-
-#[derive(Clone, Copy)]
-pub enum Found {
-    Nothing,
-    At(Due),
-}
-
-// What the ranges of a contract's fields come to: all good, or the first field that is not.
-#[derive(Clone, Copy)]
-pub enum FieldsAnswer {
-    Good,
-    Bad(Field),
-}
-
-#[derive(Clone, Copy)]
-pub enum LineAnswer {
-    Opened(Line),
-    Refused(TableReason),
-}
-
-// What stands past the last key of an array.
-pub const NO_KEY: Key = Key {
-    days: 0,
-    rate: Millionths(0),
-};
 
 // ==== the ends of ranges
 

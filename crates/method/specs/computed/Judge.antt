@@ -1,15 +1,15 @@
 -- What pressure does to a hold (METHOD 14), computed.
-use Rattle.std.specs.Prelude.{Bool, true, false, ◌&&◌, ℕ, ltb}
-use Rattle.method.specs.words.Types.{Millionths, Seconds, Side, Up, Down, Limits, Book, Hold, Idle, Since, Holds, Line}
+use Rattle.std.specs.Prelude.{Bool, true, false, ◌&&◌, ℕ, ltb, None, Some}
+use Rattle.method.specs.words.Types.{Millionths, Seconds, Side, Up, Down, Limits, Book, Hold, Holds, Line}
 use Rattle.method.specs.words.Ranges.{under_watch}
 use Rattle.method.specs.words.Pressure.{under_pressure}
 use Rattle.method.specs.computed.Types.{Watch}
 
 -- one hold, by whether its side is pressed (METHOD 14.2)
 unfoldable pub judged : Seconds → Bool → Hold → Hold
-judged now false h = Idle
-judged now true Idle = Since now
-judged now true (Since start) = Since start
+judged now false h = None
+judged now true None = Some now
+judged now true (Some start) = Some start
 
 -- ---- both holds, over all that they hang on: whatever has limits, a book and holds is judged by it
 abbrev pub watched : Side → Watch → Bool

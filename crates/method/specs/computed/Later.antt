@@ -1,5 +1,5 @@
 -- The moments of a session, over the computed state steps.
-use Rattle.std.specs.Prelude.{List, [], ◌∷◌, ◌++◌, ◌≡◌, ℕ}
+use Rattle.std.specs.Prelude.{List, [], ◌∷◌, ◌++◌, ◌≡◌, ℕ, Ok}
 use Rattle.method.specs.words.Types.{Seconds, ShiftLine, EventAnswer, State}
 use Rattle.method.specs.words.Holds.{First}
 use Rattle.method.specs.computed.Shift.{onward}
@@ -13,5 +13,5 @@ pub data Later (o : State) : List ShiftLine → State → Type 0 where
   start : Later o [] o
   shift : {cs : List ShiftLine} {s : State} → Later o cs s → (t : Seconds) (c : ShiftLine) → First t s c → Later o (cs ++ (c ∷ [])) (onward s c)
   event :
-      {cs : List ShiftLine} {s : State} → Later o cs s → (b : List ℕ) → verdict s (read b) ≡ EventAnswer.Accepted
+      {cs : List ShiftLine} {s : State} → Later o cs s → (b : List ℕ) → verdict s (read b) ≡ Ok tt
       → Later o cs (applied (read b) s)

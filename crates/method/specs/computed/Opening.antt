@@ -1,5 +1,5 @@
 -- One contract opened from its ten fields, or refused with 5, 6, 7, 8 or 9, test by test (METHOD 11.6).
-use Rattle.std.specs.Prelude.{Bool, cond, ◌&&◌, not, ◌||◌, List, [], ◌∷◌, map, ℕ, ltb, leb, pos}
+use Rattle.std.specs.Prelude.{Bool, cond, ◌&&◌, not, ◌||◌, List, [], ◌∷◌, map, ℕ, ltb, leb, pos, Ok, Err}
 use Rattle.std.specs.Int.Signed.{le_z}
 use Rattle.numbers.specs.Tests.{in_span, in_range, between}
 use Rattle.method.specs.words.Types.{Millionths, Key, Contract, Up, Down, Factors, Terms, Market, Limits, Line, Field, TableReason}
@@ -24,8 +24,8 @@ field_good Field.Flags c = ltb c.flags 4
 
 -- the first of some fields that is not good, and of all
 unfoldable pub first_bad : Contract → List Field → FieldsAnswer
-first_bad c [] = FieldsAnswer.Good
-first_bad c (f ∷ fs) = cond (field_good f c) (first_bad c fs) (FieldsAnswer.Bad f)
+first_bad c [] = Ok tt
+first_bad c (f ∷ fs) = cond (field_good f c) (first_bad c fs) (Err f)
 
 abbrev pub fields_answer : Contract → FieldsAnswer
 fields_answer c = first_bad c contract_fields
@@ -41,18 +41,18 @@ inside_bounds f m k = le_z k.upper.0 (bound Up f m) && le_z (bound Down f m) k.l
 
 unfoldable pub opened_with : Millionths → Terms → Market → LineAnswer
 opened_with width t m =
-    demand (le_z (pos 1) t.halfmove.0) (LineAnswer.Refused TableReason.HalfMove)
-    (demand (inside_bounds t.factors m (corridor width t.factors m)) (LineAnswer.Refused TableReason.Corridor)
-    (LineAnswer.Opened (fresh_line t m (corridor width t.factors m))))
+    demand (le_z (pos 1) t.halfmove.0) (Err TableReason.HalfMove)
+    (demand (inside_bounds t.factors m (corridor width t.factors m)) (Err TableReason.Corridor)
+    (Ok (fresh_line t m (corridor width t.factors m))))
 
 abbrev pub if_fields_good : FieldsAnswer → LineAnswer → LineAnswer
-if_fields_good FieldsAnswer.Good onward = onward
-if_fields_good (FieldsAnswer.Bad f) onward = LineAnswer.Refused (TableReason.Field f)
+if_fields_good (Ok good) onward = onward
+if_fields_good (Err f) onward = Err (TableReason.Field f)
 
 unfoldable pub open_line : Millionths → List Key → List Line → Contract → LineAnswer
 open_line shift keys earlier c =
     let y : ℕ = exponent_of keys c in
     if_fields_good (fields_answer c)
-    (demand (id_good earlier c.id) (LineAnswer.Refused TableReason.Id)
-    (demand (leb y most_exponent) (LineAnswer.Refused TableReason.Exponent)
+    (demand (id_good earlier c.id) (Err TableReason.Id)
+    (demand (leb y most_exponent) (Err TableReason.Exponent)
     (opened_with c.width (terms_of shift y c) (market_of c))))

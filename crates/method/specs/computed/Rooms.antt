@@ -1,11 +1,11 @@
 -- The ranges of a session's numbers: what an accepted table tells of the lines that it opens, and what every shift and every event keep. The code
 -- rests on them, and so does whoever takes a session up from a state that was kept (`Proper`).
-use Rattle.std.specs.Prelude.{true, false, ◌≡◌, ℕ, ◌+◌, ◌≤◌, ◌<◌, ◌-◌, ◌*◌, ◌/◌, pos, length, ◌≤ℤ◌}
+use Rattle.std.specs.Prelude.{true, false, ◌≡◌, ℕ, ◌+◌, ◌≤◌, ◌<◌, ◌-◌, ◌*◌, ◌/◌, pos, length, ◌≤ℤ◌, None, Some, Ok, Err}
 use Rattle.numbers.specs.Ranges.{Within, Between, Span}
-use Rattle.method.specs.words.Types.{Up, Down, Factors, Terms, Market, Limits, Price, Absent, Given, Book, Hold, Idle, Since, Holds, Line, seconds, State, empty_book, no_holds}
+use Rattle.method.specs.words.Types.{Up, Down, Factors, Terms, Market, Limits, Price, Book, Hold, Holds, Line, seconds, State, empty_book, no_holds}
 use Rattle.method.specs.words.Ranges.{most_contracts, longest_session, longest_hold, most_shifts, largest_near_share, largest_price, largest_quote, permits_negative, Every}
 use Rattle.method.specs.words.Bounds.{bound}
-use Rattle.method.specs.computed.Types.{Event, Damaged, Tick, Quoted}
+use Rattle.method.specs.computed.Types.{ReadEvent, Tick, Quoted}
 use Rattle.method.specs.computed.Head.{most_left}
 
 -- ---- bounds that follow from the ends that the words name; by them the code's sums and products fit
@@ -101,8 +101,8 @@ pub record LimitsRoom (t : Terms) (m : Market) (k : Limits) : Type 0 where
   pub floor : Floor k t.flags
 
 unfoldable pub PriceIn : Price → Type 0
-PriceIn Absent = Unit {0}
-PriceIn (Given p) = Within largest_quote p.0
+PriceIn None = Unit {0}
+PriceIn (Some p) = Within largest_quote p.0
 
 pub record BookIn (b : Book) : Type 0 where
   pub bid : PriceIn b.bid
@@ -110,8 +110,8 @@ pub record BookIn (b : Book) : Type 0 where
 
 -- a hold starts no later than the longest session ends
 unfoldable pub HoldIn : Hold → Type 0
-HoldIn Idle = Unit {0}
-HoldIn (Since start) = start.0 ≤ longest_session
+HoldIn None = Unit {0}
+HoldIn (Some start) = start.0 ≤ longest_session
 
 pub record HoldsIn (h : Holds) : Type 0 where
   pub up : HoldIn h.up
@@ -133,7 +133,7 @@ pub record Sane (s : State) : Type 0 where
   pub near : Between 1 largest_near_share s.near.0
   pub rooms : Every (Room (most_left s)) s.lines
 
-unfoldable pub EventIn : Event → Type 0
-EventIn (Damaged why) = Unit {0}
-EventIn (Tick t) = Unit {0}
-EventIn (Quoted q) = PriceIn q.bid × PriceIn q.ask
+unfoldable pub EventIn : ReadEvent → Type 0
+EventIn (Err why) = Unit {0}
+EventIn (Ok (Tick t)) = Unit {0}
+EventIn (Ok (Quoted q)) = PriceIn q.bid × PriceIn q.ask

@@ -1,9 +1,9 @@
 -- How the answers are found. From every proper state it is proved to give the one list of answers that the words admit (`SessionIs`).
 -- The search passes the lines once, in the table's order, and carries the hold that goes first of those passed.
-use Rattle.std.specs.Prelude.{cond, Bool, true, false, List, [], ◌∷◌, ℕ, ◌+◌, zero, suc, ltb, leb, get_or}
-use Rattle.method.specs.words.Types.{Seconds, Side, Up, Down, Hold, Idle, Since, Holds, Line, ShiftLine, Due, EventAnswer, seconds, State, blank}
+use Rattle.std.specs.Prelude.{cond, Bool, true, false, List, [], ◌∷◌, ℕ, ◌+◌, zero, suc, ltb, leb, get_or, None, Some, Ok, Err}
+use Rattle.method.specs.words.Types.{Seconds, Side, Up, Down, Hold, Holds, Line, ShiftLine, Due, EventAnswer, seconds, State, blank}
 use Rattle.method.specs.words.Sessions.{Answer, accepted, refused}
-use Rattle.method.specs.computed.Types.{Event, Found, Nothing, At}
+use Rattle.method.specs.computed.Types.{ReadEvent, Found}
 use Rattle.method.specs.computed.Head.{most_left}
 use Rattle.method.specs.computed.Shift.{onward}
 use Rattle.method.specs.computed.Event.{read, verdict, next}
@@ -11,8 +11,8 @@ use Rattle.method.specs.computed.Relation.{time}
 
 -- when a hold falls due, after `wait` seconds
 unfoldable pub due_of : Side → Seconds → ℕ → Hold → Found
-due_of side wait place Idle = Nothing
-due_of side wait place (Since start) = At (record { second = seconds (start.0 + wait.0); side = side; place = place })
+due_of side wait place None = None
+due_of side wait place (Some start) = Some (record { second = seconds (start.0 + wait.0); side = side; place = place })
 
 -- of two holds due at one second, whether the first goes before a second that stands at no later place
 abbrev pub outranks : Side → Side → Bool
@@ -25,9 +25,9 @@ ahead x y = cond (ltb x.second.0 y.second.0) true (cond (ltb y.second.0 x.second
 
 -- the first unless the second goes before it
 unfoldable pub sooner : Found → Found → Found
-sooner Nothing d = d
-sooner (At y) Nothing = At y
-sooner (At y) (At x) = cond (ahead x y) (At x) (At y)
+sooner None d = d
+sooner (Some y) None = Some y
+sooner (Some y) (Some x) = cond (ahead x y) (Some x) (Some y)
 
 -- one more line passed
 unfoldable pub passed : Seconds → ℕ → Holds → Found → Found
@@ -39,19 +39,19 @@ earliest wait place (l ∷ ls) best = earliest wait (suc place) ls (passed wait 
 
 -- due at or before t and before session end, while shifts are left
 unfoldable pub in_time : Seconds → Seconds → ℕ → Found → Found
-in_time t end left Nothing = Nothing
-in_time t end left (At x) =
-    cond (ltb t.0 x.second.0) Nothing (cond (leb end.0 x.second.0) Nothing (cond (ltb 0 left) (At x) Nothing))
+in_time t end left None = None
+in_time t end left (Some x) =
+    cond (ltb t.0 x.second.0) None (cond (leb end.0 x.second.0) None (cond (ltb 0 left) (Some x) None))
 
 unfoldable pub next_due : Seconds → State → Found
-next_due t s = in_time t s.end s.left (earliest s.hold 0 s.lines Nothing)
+next_due t s = in_time t s.end s.left (earliest s.hold 0 s.lines None)
 
 abbrev pub called : State → Due → ShiftLine
 called s x = record { second = x.second; side = x.side; id = (get_or s.lines x.place blank).terms.id }
 
 abbrev pub if_due : Found → (Due → List ShiftLine) → List ShiftLine
-if_due Nothing onward = []
-if_due (At x) onward = onward x
+if_due None onward = []
+if_due (Some x) onward = onward x
 
 -- at most n shifts; n is as many as may still be made
 unfoldable pub serve : ℕ → Seconds → State → List ShiftLine
@@ -63,10 +63,10 @@ unfoldable pub served_by : Seconds → State → List ShiftLine
 served_by t s = serve (most_left s) t s
 
 abbrev pub as_answer : EventAnswer → List ShiftLine → Answer
-as_answer EventAnswer.Accepted cs = accepted cs
-as_answer (EventAnswer.Refused why) cs = refused why
+as_answer (Ok taken) cs = accepted cs
+as_answer (Err why) cs = refused why
 
-unfoldable pub answer : State → Event → Answer
+unfoldable pub answer : State → ReadEvent → Answer
 answer s e = as_answer (verdict s e) (served_by (time e) s)
 
 -- the answers to a list of byte strings, and the state after them

@@ -1,6 +1,6 @@
 -- A shift (METHOD 16), computed: of one line and of all lines.
-use Rattle.std.specs.Prelude.{List, [], ◌∷◌, map, ℕ, ◌-◌, ◌+ℤ◌, ◌-ℤ◌}
-use Rattle.method.specs.words.Types.{Steps, Millionths, Seconds, Side, Up, Down, Terms, Market, Limits, Idle, Holds, Line, ShiftLine, steps, State}
+use Rattle.std.specs.Prelude.{List, [], ◌∷◌, map, ℕ, ◌-◌, ◌+ℤ◌, ◌-ℤ◌, None}
+use Rattle.method.specs.words.Types.{Steps, Millionths, Seconds, Side, Up, Down, Terms, Market, Limits, Holds, Line, ShiftLine, steps, State}
 use Rattle.method.specs.words.Ranges.{permits_negative}
 use Rattle.method.specs.words.Bounds.{bound}
 use Rattle.method.specs.words.Opening.{floored}
@@ -25,8 +25,8 @@ redrawn Down t m n k =
 
 -- the shifted side's hold ends
 abbrev pub ended : Side → Holds → Holds
-ended Up h = record { up = Idle; down = h.down }
-ended Down h = record { up = h.up; down = Idle }
+ended Up h = record { up = None; down = h.down }
+ended Down h = record { up = h.up; down = None }
 
 unfoldable pub moved_line : Side → Line → Line
 moved_line side l =

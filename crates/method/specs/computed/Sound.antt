@@ -1,14 +1,14 @@
 -- What holds of a session at opening and after every event, and of every state from which one may be taken up.
-use Rattle.std.specs.Prelude.{Bool, true, false, ◌&&◌, List, [], ◌∷◌, ◌≡◌, ℕ, ◌≤◌, ltb}
-use Rattle.method.specs.words.Types.{Millionths, Side, Hold, Idle, Since, Line, State, session_ids}
+use Rattle.std.specs.Prelude.{Bool, true, false, ◌&&◌, List, [], ◌∷◌, ◌≡◌, ℕ, ◌≤◌, ltb, None, Some}
+use Rattle.method.specs.words.Types.{Millionths, Side, Hold, Line, State, session_ids}
 use Rattle.method.specs.words.Ranges.{Every}
 use Rattle.method.specs.words.Pressure.{presses}
 use Rattle.method.specs.words.Holds.{Done, hold_of}
 use Rattle.method.specs.computed.Rooms.{Sane}
 
 abbrev pub standing : Hold → Bool
-standing Idle = false
-standing (Since start) = true
+standing None = false
+standing (Some start) = true
 
 -- a hold stands exactly where a watched line presses and shifts are left
 unfoldable pub Exact : Millionths → ℕ → Line → Type 0

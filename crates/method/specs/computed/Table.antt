@@ -1,6 +1,5 @@
 -- A table opened, or refused with its line, test by test in the order of METHOD 11. Every list of bytes has an answer.
-use Rattle.std.specs.Prelude.{cond, Bool, ◌&&◌, List, [], ◌∷◌, ◌++◌, ℕ, ◌+◌, suc, ltb, leb, eqb, length}
-use Rattle.std.proofs.Math.Option.{Option, none, some}
+use Rattle.std.specs.Prelude.{cond, Bool, ◌&&◌, List, [], ◌∷◌, ◌++◌, ℕ, ◌+◌, suc, ltb, leb, eqb, length, Ok, Err, Option, None, Some}
 use Rattle.numbers.specs.Tests.{in_range}
 use Rattle.method.specs.words.Types.{Header, Key, Contract, Line, TableReason}
 use Rattle.method.specs.words.Layout.{header_of, contracts_start, table_length, keys_at, contracts_at}
@@ -25,12 +24,12 @@ key_good before k = in_range 1 most_days k.days && ltb before k.days && leb k.ra
 
 -- the line of the first bad key, if there is one; `before` has the days of the key before it
 unfoldable pub bad_key : ℕ → ℕ → List Key → Option ℕ
-bad_key line before [] = none
-bad_key line before (k ∷ keys) = cond (key_good before k) (bad_key (suc line) k.days keys) (some line)
+bad_key line before [] = None
+bad_key line before (k ∷ keys) = cond (key_good before k) (bad_key (suc line) k.days keys) (Some line)
 
 abbrev pub if_opened : LineAnswer → ℕ → (Line → Opening) → Opening
-if_opened (LineAnswer.Opened l) line onward = onward l
-if_opened (LineAnswer.Refused why) line onward = refused why line
+if_opened (Ok l) line onward = onward l
+if_opened (Err why) line onward = refused why line
 
 -- the contracts from a line on, after the lines that are opened already
 unfoldable pub open_lines : Header → List Key → ℕ → List Line → List Contract → Opening
@@ -39,8 +38,8 @@ open_lines h keys line earlier (c ∷ cs) =
     if_opened (open_line h.shift keys earlier c) line (λ (l : Line). open_lines h keys (suc line) (earlier ++ (l ∷ [])) cs)
 
 abbrev pub if_keys_good : Option ℕ → Opening → Opening
-if_keys_good none onward = onward
-if_keys_good (some line) onward = refused TableReason.Key line
+if_keys_good None onward = onward
+if_keys_good (Some line) onward = refused TableReason.Key line
 
 unfoldable pub open_records : Header → List Key → List Contract → Opening
 open_records h keys cs = if_keys_good (bad_key 1 0 keys) (open_lines h keys 1 [] cs)

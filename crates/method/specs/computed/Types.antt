@@ -1,15 +1,26 @@
--- The types that the code goes by on its way to an answer, as src/lib.rt declares them: which sides are watched, what a byte string says, the
--- hold that is found, a contract's answer.
-use Rattle.method.specs.words.Types.{Key, millionths}
+-- The types that the code goes by on its way to an answer: which sides are watched, what a byte string says, the hold that is found, a contract's
+-- answer. The records are as src/lib.rt declares them.
+use Rattle.std.specs.Prelude.{Option, Result}
+use Rattle.method.specs.words.Types.{Key, Line, Due, Field, TableReason, EventReason, millionths}
 pub use Rattle.method.specs.declared.Watch.{Watch}
 pub use Rattle.method.specs.declared.Quote.{Quote}
 pub use Rattle.method.specs.declared.Event.{Event}
-pub use Rattle.method.specs.declared.Event.TheVariants.{Damaged, Tick, Quoted}
-pub use Rattle.method.specs.declared.Found.{Found}
-pub use Rattle.method.specs.declared.Found.TheVariants.{Nothing, At}
-pub use Rattle.method.specs.declared.FieldsAnswer.{FieldsAnswer}
-pub use Rattle.method.specs.declared.LineAnswer.{LineAnswer}
+pub use Rattle.method.specs.declared.Event.TheVariants.{Tick, Quoted}
 
--- what stands past the last key of an array
+-- what a byte string says: an event, or why it is none
+abbrev pub ReadEvent : Type 0
+ReadEvent = Result Event EventReason
+
+abbrev pub Found : Type 0
+Found = Option Due
+
+-- all fields good, or the first one that is not
+abbrev pub FieldsAnswer : Type 0
+FieldsAnswer = Result (Unit {0}) Field
+
+abbrev pub LineAnswer : Type 0
+LineAnswer = Result Line TableReason
+
+-- what is read past the last key
 abbrev pub no_key : Key
 no_key = record { days = 0; rate = millionths 0 }

@@ -1,8 +1,8 @@
 -- Where the rules admitted two readings: the examples A1 to A5, A8, A10 to A14 (refusals and printing), B1 to B9 and B11 (holds and shifts),
 -- D8 and D11's empty quote (ticks and repeated quotes) of docs/DECISIONS.md, with a few more and the questions: one table under one claim. A
 -- shift line is its second, its side (0 up, 1 down) and its id. Assumes nothing.
-use Rattle.std.specs.Prelude.{List, [], ◌∷◌, ◌++◌, map, ◌≡◌, refl, ℕ, zero, suc, ℤ, pos, negsuc, take, drop}
-use Rattle.method.specs.words.Types.{Contract, Up, Down, Given, Line, steps, millionths, State}
+use Rattle.std.specs.Prelude.{List, [], ◌∷◌, ◌++◌, map, ◌≡◌, refl, ℕ, zero, suc, ℤ, pos, negsuc, take, drop, Some}
+use Rattle.method.specs.words.Types.{Contract, Up, Down, Line, steps, millionths, State}
 use Rattle.method.specs.words.Wire.{word, signed, bit}
 use Rattle.method.specs.words.Layout.{header_of, key_at, contract_at, table_length, keys_at, contracts_at}
 use Rattle.method.specs.words.Growth.{between_keys, rate_from, rate_by_keys, rate_at, exponent, term, series, outer_part, up_factor, down_factor, factors_of}
@@ -74,10 +74,10 @@ abbrev zero_width : Line → List ℤ
 zero_width l =
     both_limits l
     ++ map mark
-    (close Up (millionths 50_000) l.limits (Given (steps (pos 1_000)))
-    ∷ close Up (millionths 50_000) l.limits (Given (steps (pos 1_001)))
-    ∷ close Down (millionths 50_000) l.limits (Given (steps (pos 1_000)))
-    ∷ close Down (millionths 50_000) l.limits (Given (steps (pos 999)))
+    (close Up (millionths 50_000) l.limits (Some (steps (pos 1_000)))
+    ∷ close Up (millionths 50_000) l.limits (Some (steps (pos 1_001)))
+    ∷ close Down (millionths 50_000) l.limits (Some (steps (pos 1_000)))
+    ∷ close Down (millionths 50_000) l.limits (Some (steps (pos 999)))
     ∷ [])
 
 -- the upper interest bound after n up shifts

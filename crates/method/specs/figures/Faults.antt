@@ -1,6 +1,6 @@
 -- Figures of refusal 5 (METHOD 11.11): the place of the field that it names, and 0 where all fields are good; each range from both sides, and of
 -- several faults the lowest place (DECISIONS A6).
-use Rattle.std.specs.Prelude.{List, [], ◌∷◌, map, ◌≡◌, refl, ℕ, ℤ, pos, negsuc}
+use Rattle.std.specs.Prelude.{List, [], ◌∷◌, map, ◌≡◌, refl, ℕ, ℤ, pos, negsuc, Ok, Err}
 use Rattle.method.specs.words.Types.{Contract, steps, millionths}
 use Rattle.method.specs.words.Wire.{bit}
 use Rattle.method.specs.words.Ranges.{contract_fields}
@@ -40,8 +40,8 @@ last width days flags = nine (pos 1_000) (pos 1_000) (pos 1) 100_000 200_000 300
 
 -- ---- the place that is named
 abbrev place_in : FieldsAnswer → ℕ
-place_in FieldsAnswer.Good = 0
-place_in (FieldsAnswer.Bad f) = field_place f
+place_in (Ok good) = 0
+place_in (Err f) = field_place f
 
 abbrev named : List ℕ → List Contract → Figure
 named places cs = figure (map pos places) (map (λ (c : Contract). pos (place_in (fields_answer c))) cs)

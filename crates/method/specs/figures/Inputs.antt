@@ -1,5 +1,5 @@
 -- Inputs for the figures and examples, written field by field, and what is read off an answer.
-use Rattle.std.specs.Prelude.{List, [], ◌∷◌, ◌++◌, ℕ, ◌+◌, ◌*◌, ◌/◌, ◌%◌, ℤ, pos, length}
+use Rattle.std.specs.Prelude.{List, [], ◌∷◌, ◌++◌, ℕ, ◌+◌, ◌*◌, ◌/◌, ◌%◌, ℤ, pos, length, Ok, Err}
 use Rattle.method.specs.words.Types.{Key, Contract, Up, Down, Line, steps, millionths}
 use Rattle.method.specs.words.Growth.{rate_at, exponent, factors_of}
 use Rattle.method.specs.words.Bounds.{bound}
@@ -91,8 +91,8 @@ raw_lower rate c =
 -- ---- what is read off an answer
 -- of an opened line, or the number that it is refused with
 abbrev pub of_line : (Line → List ℤ) → LineAnswer → List ℤ
-of_line f (LineAnswer.Opened l) = f l
-of_line f (LineAnswer.Refused why) = pos (table_number why) ∷ []
+of_line f (Ok l) = f l
+of_line f (Err why) = pos (table_number why) ∷ []
 
 abbrev pub bounds : Line → List ℤ
 bounds l = bound Up l.terms.factors l.market ∷ bound Down l.terms.factors l.market ∷ []

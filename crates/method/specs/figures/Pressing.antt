@@ -1,6 +1,6 @@
 -- Figures of pressure: limits 950 and 1050, near share 50,000.
-use Rattle.std.specs.Prelude.{true, false, ◌≡◌, refl, pos}
-use Rattle.method.specs.words.Types.{Up, Down, Limits, Given, Since, steps, millionths, seconds}
+use Rattle.std.specs.Prelude.{true, false, ◌≡◌, refl, pos, Some}
+use Rattle.method.specs.words.Types.{Up, Down, Limits, steps, millionths, seconds}
 use Rattle.method.specs.words.Pressure.{close}
 use Rattle.method.specs.computed.Judge.{judged}
 
@@ -8,14 +8,14 @@ use Rattle.method.specs.computed.Judge.{judged}
 abbrev figure : Limits
 figure = record { upper = steps (pos 1_050); lower = steps (pos 950); frozen = false }
 
-from_1046 : (close Up (millionths 50_000) figure (Given (steps (pos 1_046))) ≡ true) × (close Up (millionths 50_000) figure (Given (steps (pos 1_045))) ≡ false)
+from_1046 : (close Up (millionths 50_000) figure (Some (steps (pos 1_046))) ≡ true) × (close Up (millionths 50_000) figure (Some (steps (pos 1_045))) ≡ false)
 unfolding close
 from_1046 = (refl, refl)
 
-to_954 : (close Down (millionths 50_000) figure (Given (steps (pos 954))) ≡ true) × (close Down (millionths 50_000) figure (Given (steps (pos 955))) ≡ false)
+to_954 : (close Down (millionths 50_000) figure (Some (steps (pos 954))) ≡ true) × (close Down (millionths 50_000) figure (Some (steps (pos 955))) ≡ false)
 unfolding close
 to_954 = (refl, refl)
 
-goes_on : judged (seconds 20) true (Since (seconds 10)) ≡ Since (seconds 10)
+goes_on : judged (seconds 20) true (Some (seconds 10)) ≡ Some (seconds 10)
 unfolding judged
 goes_on = refl

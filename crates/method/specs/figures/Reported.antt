@@ -1,6 +1,6 @@
 -- A report in figures.
-use Rattle.std.specs.Prelude.{false, [], ◌∷◌, ◌≡◌, refl, pos}
-use Rattle.method.specs.words.Types.{Absent, Given, Idle, Since, Line, steps, seconds, billionths, State}
+use Rattle.std.specs.Prelude.{false, [], ◌∷◌, ◌≡◌, refl, pos, None, Some}
+use Rattle.method.specs.words.Types.{Line, steps, seconds, billionths, State}
 use Rattle.method.specs.words.Wire.{word}
 use Rattle.method.specs.words.Layout.{header_of}
 use Rattle.method.specs.words.Bounds.{factor, interest, outward, bound}
@@ -24,8 +24,8 @@ sample_line =
           };
       market = record { centre = steps (pos 1_000); half1 = steps (pos 100); half2 = steps (pos 200); half3 = steps (pos 300) };
       limits = record { upper = steps (pos 1_050); lower = steps (pos 950); frozen = false };
-      book = record { bid = Given (steps (pos 1_046)); ask = Absent };
-      holds = record { up = Since (seconds 10); down = Idle };
+      book = record { bid = Some (steps (pos 1_046)); ask = None };
+      holds = record { up = Some (seconds 10); down = None };
     }
 
 abbrev sample_state : State

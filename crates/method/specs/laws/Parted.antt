@@ -1,7 +1,7 @@
 -- Refusals that say more than they once did: 5 names its field, and what is no event has 12, 15 or 16. Put together again each is given exactly
 -- where it was given before (METHOD 23.18). The ranges of a contract and what is an event stand here once more, in the form that they had when
 -- each had one refusal. Words and statements, and no proof; the name in brackets is the theorem, in proofs/Parted.
-use Rattle.std.specs.Prelude.{Bool, true, false, List, ◌↔◌, ◌≡◌, ℕ, ◌≤◌, ◌<◌, ℤ, pos, length, ◌≤ℤ◌}
+use Rattle.std.specs.Prelude.{Bool, true, false, List, ◌↔◌, ◌≡◌, ℕ, ◌≤◌, ◌<◌, ℤ, pos, length, ◌≤ℤ◌, Err}
 use Rattle.numbers.specs.Ranges.{Within, Between, Span}
 use Rattle.method.specs.words.Types.{Millionths, Key, Contract, Field, TableReason, EventReason, EventAnswer, State}
 use Rattle.method.specs.words.Wire.{word, signed, bit}
@@ -51,9 +51,9 @@ pub data EventOnce (b : List ℕ) : Type 0 where
 
 -- a byte string is refused in a state with 12, 15 or 16
 pub data RefusedUnread (s : State) (b : List ℕ) : Type 0 where
-  malformed : EventAnswered s b (EventAnswer.Refused EventReason.Malformed) → RefusedUnread s b
-  absent : EventAnswered s b (EventAnswer.Refused EventReason.AbsentNotZero) → RefusedUnread s b
-  out_of_range : EventAnswered s b (EventAnswer.Refused EventReason.PriceOutOfRange) → RefusedUnread s b
+  malformed : EventAnswered s b (Err EventReason.Malformed) → RefusedUnread s b
+  absent : EventAnswered s b (Err EventReason.AbsentNotZero) → RefusedUnread s b
+  out_of_range : EventAnswered s b (Err EventReason.PriceOutOfRange) → RefusedUnread s b
 
 -- It is so refused exactly where it is no event, whatever the state. (no_event_parted)
 abbrev pub NoEventParted : Type 0

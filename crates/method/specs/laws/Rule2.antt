@@ -1,8 +1,8 @@
 -- What rule 2's words come to, of every session that begins in a state of which `From` holds: no shift is left out, late or made up, and they
 -- come in order. What is late is counted from the start of a hold; that a hold starts with pressure and keeps its start is in the words (`Life`).
 -- The name in brackets is the theorem, in proofs/Rule2.
-use Rattle.std.specs.Prelude.{List, ◌∷◌, ◌++◌, ◌≡◌, ℕ, ◌+◌, ◌≤◌, ◌<◌, length}
-use Rattle.method.specs.words.Types.{Seconds, Side, Idle, ShiftLine, Due, seconds, State, empty_book}
+use Rattle.std.specs.Prelude.{List, ◌∷◌, ◌++◌, ◌≡◌, ℕ, ◌+◌, ◌≤◌, ◌<◌, length, None}
+use Rattle.method.specs.words.Types.{Seconds, Side, ShiftLine, Due, seconds, State, empty_book}
 use Rattle.method.specs.words.Wire.{word}
 use Rattle.method.specs.words.Layout.{header_of}
 use Rattle.method.specs.words.Ranges.{most_shifts, Every}
@@ -100,7 +100,7 @@ WheneverLooked =
 -- Every book is empty and the clock stands at 0; there is no pressure yet, and so no hold. (METHOD 24.8; rule2_at_opening)
 abbrev pub AtOpening : Type 0
 AtOpening =
-    (o : State) → Opens o → Every (λ l. l.book ≡ empty_book) o.lines × (o.clock ≡ seconds 0) × ((side : Side) (place : ℕ) → hold_at side o place ≡ Idle)
+    (o : State) → Opens o → Every (λ l. l.book ≡ empty_book) o.lines × (o.clock ≡ seconds 0) × ((side : Side) (place : ℕ) → hold_at side o place ≡ None)
 
 -- Session end, hold seconds and near share are the table's, after any events. (METHOD 24.9; rule2_table_kept)
 abbrev pub TableKept : Type 0

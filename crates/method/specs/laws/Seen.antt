@@ -1,7 +1,7 @@
 -- Words for what is seen along a session: where holds stand, who called for a shift, in which order, and an accepted event at once.
-use Rattle.std.specs.Prelude.{Bool, true, ◌↔◌, ◌≡◌, ℕ, ◌+◌, ◌≤◌, ◌<◌, pos, get_or, length}
+use Rattle.std.specs.Prelude.{Bool, true, ◌↔◌, ◌≡◌, ℕ, ◌+◌, ◌≤◌, ◌<◌, pos, get_or, length, None, Some}
 use mathlib.Core.List.{List, [], ◌∷◌, Memᴰ}
-use Rattle.method.specs.words.Types.{Seconds, Header, Side, Up, Down, Idle, Since, Line, ShiftLine, Due, seconds, State, blank}
+use Rattle.method.specs.words.Types.{Seconds, Header, Side, Up, Down, Line, ShiftLine, Due, seconds, State, blank}
 use Rattle.method.specs.words.Wire.{word}
 use Rattle.method.specs.words.Ranges.{Every}
 use Rattle.method.specs.words.Pressure.{presses}
@@ -28,19 +28,19 @@ presses_at side s place = presses side s.near (get_or s.lines place blank)
 
 -- ---- where holds stand: exactly where a watched line presses and shifts are left, of every line on every side
 abbrev pub HoldsExact : State → Type 0
-HoldsExact s = (side : Side) (place : ℕ) → (hold_at side s place ≡ Idle → ⊥) ↔ ((0 < s.left) × (presses_at side s place ≡ true))
+HoldsExact s = (side : Side) (place : ℕ) → (hold_at side s place ≡ None → ⊥) ↔ ((0 < s.left) × (presses_at side s place ≡ true))
 
 -- The hold that called for shift line c, in the state just before it: hold seconds old at the line's second, and first by METHOD 15.2. All holds
 -- wait equally long, so that the one due earliest started earliest.
 pub record Caller (s : State) (c : ShiftLine) : Type 0 where
   pub start : Seconds
   pub place : ℕ
-  pub held : hold_at c.side s place ≡ Since start
+  pub held : hold_at c.side s place ≡ Some start
   pub due : c.second.0 ≡ start.0 + s.hold.0
   pub named : c.id ≡ (get_or s.lines place blank).terms.id
-  pub earliest : (side : Side) (n : ℕ) (began : Seconds) → hold_at side s n ≡ Since began → start.0 ≤ began.0
-  pub up_before_down : c.side ≡ Down → (n : ℕ) → hold_at Up s n ≡ Since start → ⊥
-  pub lowest_line : (n : ℕ) → hold_at c.side s n ≡ Since start → place ≤ n
+  pub earliest : (side : Side) (n : ℕ) (began : Seconds) → hold_at side s n ≡ Some began → start.0 ≤ began.0
+  pub up_before_down : c.side ≡ Down → (n : ℕ) → hold_at Up s n ≡ Some start → ⊥
+  pub lowest_line : (n : ℕ) → hold_at c.side s n ≡ Some start → place ≤ n
 
 -- Where its second lies: after the clock before the event, at or before the event's time t, before session end.
 pub record Timely (clock t end : Seconds) (c : ShiftLine) : Type 0 where

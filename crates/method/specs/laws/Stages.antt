@@ -1,6 +1,6 @@
 -- The stages of a session, one after each shift and one after each accepted event, and who called for a shift line along them.
-use Rattle.std.specs.Prelude.{true, List, [], ◌∷◌, ◌++◌, ◌⊎◌, ◌≡◌, ℕ, ◌+◌, ◌<◌}
-use Rattle.method.specs.words.Types.{Seconds, Side, Since, ShiftLine, seconds, State}
+use Rattle.std.specs.Prelude.{true, List, [], ◌∷◌, ◌++◌, ◌⊎◌, ◌≡◌, ℕ, ◌+◌, ◌<◌, Some}
+use Rattle.method.specs.words.Types.{Seconds, Side, ShiftLine, seconds, State}
 use Rattle.method.specs.words.Wire.{word}
 use Rattle.method.specs.words.Ranges.{Every}
 use Rattle.method.specs.words.Holds.{hold_at}
@@ -23,7 +23,7 @@ stages (turned_away v r) = stages r
 
 -- at a stage the line at that place presses, and its hold stands since `start`
 pub record Pressing (side : Side) (place : ℕ) (start : Seconds) (m : Stage) : Type 0 where
-  pub held : hold_at side m.state place ≡ Since start
+  pub held : hold_at side m.state place ≡ Some start
   pub pressed : presses_at side m.state place ≡ true
 
 -- The line has pressed without a break since `start`: from a stage at that second on, and so at all stages later than that second.
@@ -38,7 +38,7 @@ pub record Begun (side : Side) (place : ℕ) (start : Seconds) (ms : List Stage)
 
 -- Or it pressed when the session was taken up at o, with its hold standing, and has pressed at every stage since. At opening no hold stands.
 pub record Throughout (side : Side) (place : ℕ) (start : Seconds) (o : State) (ms : List Stage) : Type 0 where
-  pub stood : hold_at side o place ≡ Since start
+  pub stood : hold_at side o place ≡ Some start
   pub ever_since : Every (Pressing side place start) ms
 
 -- Shift line c of the answer to b, after the lines of that answer that k makes: who called, when, and since when its line has pressed.

@@ -1,7 +1,7 @@
 -- Ticks are free (METHOD 26): an event that tells nothing new, put before an accepted event that is not earlier, changes no shift line and no
 -- later session. It follows from rule 2's definition and from which events are accepted. Words and statements, and no proof; the name in
 -- brackets is the theorem, in proofs/Ticks and proofs/Thinning.
-use Rattle.std.specs.Prelude.{List, [], ◌∷◌, ◌++◌, ◌≡◌, ℕ, ◌≤◌}
+use Rattle.std.specs.Prelude.{List, [], ◌∷◌, ◌++◌, ◌≡◌, ℕ, ◌≤◌, Ok}
 use Rattle.method.specs.words.Types.{ShiftLine, EventAnswer, State}
 use Rattle.method.specs.words.Wire.{word}
 use Rattle.method.specs.words.Ranges.{Every}
@@ -24,7 +24,7 @@ pub data NothingNew (s : State) (b : List ℕ) : Type 0 where
 
 -- ---- where it is put (METHOD 26.2)
 abbrev pub Accepts : State → List ℕ → Type 0
-Accepts s b = EventAnswered s b EventAnswer.Accepted
+Accepts s b = EventAnswered s b (Ok tt)
 
 abbrev pub Refuses : State → List ℕ → Type 0
 Refuses s b = Accepts s b → ⊥

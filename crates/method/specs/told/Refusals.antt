@@ -1,8 +1,8 @@
 -- The numbers of refusals (METHOD 23), and what each answer says in numbers: the refusal's number, or 0 where there is none, and the values of
 -- that kind of answer.
-use Rattle.std.specs.Prelude.{Bool, true, false, List, [], ◌∷◌, ◌++◌, ℕ, ℤ, pos, negsuc}
-use Rattle.method.specs.words.Types.{Limits, Price, Absent, Given, Field, TableReason, EventReason, EventAnswer}
-use Rattle.method.specs.told.Types.{TableAnswer, LimitsAnswer, PlaceAnswer, Below, Inside, Above, BothBounds, HoldReport, NoHold, Holding, Report, ReportAnswer}
+use Rattle.std.specs.Prelude.{Bool, true, false, List, [], ◌∷◌, ◌++◌, ℕ, ℤ, pos, negsuc, Option, None, Some, Result, Ok, Err}
+use Rattle.method.specs.words.Types.{Limits, Price, Field, TableReason, EventReason}
+use Rattle.method.specs.told.Types.{TableRefusal, LimitsAnswer, PlaceAnswer, Below, Inside, Above, BothBounds, HoldReport, Report, ReportAnswer}
 
 unfoldable pub table_number : TableReason → ℕ
 table_number TableReason.Length = 1
@@ -53,13 +53,13 @@ pub record Said : Type 0 where
   pub values : List ℤ
 
 -- a table's refusal has its line and its field
-unfoldable pub table_said : TableAnswer → Said
-table_said TableAnswer.Opened = record { number = 0; values = [] }
-table_said (TableAnswer.Refused why line) = record { number = table_number why; values = pos line ∷ pos (field_number why) ∷ [] }
+unfoldable pub table_said : {A : Type 0} → Result A TableRefusal → Said
+table_said (Ok opened) = record { number = 0; values = [] }
+table_said (Err r) = record { number = table_number r.reason; values = pos r.line ∷ pos (field_number r.reason) ∷ [] }
 
-unfoldable pub event_said : EventAnswer → Said
-event_said EventAnswer.Accepted = record { number = 0; values = [] }
-event_said (EventAnswer.Refused why) = record { number = event_number why; values = [] }
+unfoldable pub event_said : {A : Type 0} → Result A EventReason → Said
+event_said (Ok accepted) = record { number = 0; values = [] }
+event_said (Err why) = record { number = event_number why; values = [] }
 
 -- no 0, yes 1
 abbrev pub mark : Bool → ℤ
@@ -71,15 +71,15 @@ abbrev limits_values : Limits → List ℤ
 limits_values k = k.lower.0 ∷ k.upper.0 ∷ mark k.frozen ∷ []
 
 unfoldable pub limits_said : LimitsAnswer → Said
-limits_said (LimitsAnswer.Standing k) = record { number = 0; values = limits_values k }
-limits_said (LimitsAnswer.Refused why) = record { number = event_number why; values = [] }
+limits_said (Ok k) = record { number = 0; values = limits_values k }
+limits_said (Err why) = record { number = event_number why; values = [] }
 
 -- below -1, inside 0, above 1
 unfoldable pub place_said : PlaceAnswer → Said
-place_said Below = record { number = 0; values = negsuc 0 ∷ [] }
-place_said Inside = record { number = 0; values = pos 0 ∷ [] }
-place_said Above = record { number = 0; values = pos 1 ∷ [] }
-place_said (PlaceAnswer.Refused why) = record { number = event_number why; values = [] }
+place_said (Ok Below) = record { number = 0; values = negsuc 0 ∷ [] }
+place_said (Ok Inside) = record { number = 0; values = pos 0 ∷ [] }
+place_said (Ok Above) = record { number = 0; values = pos 1 ∷ [] }
+place_said (Err why) = record { number = event_number why; values = [] }
 
 -- ---- what stands on one line
 -- the lower and the upper bound
@@ -88,13 +88,13 @@ bounds_values b = b.lower.0 ∷ b.upper.0 ∷ []
 
 -- 0, or 1 and the start and the due second
 abbrev hold_values : HoldReport → List ℤ
-hold_values NoHold = pos 0 ∷ []
-hold_values (Holding h) = pos 1 ∷ pos h.start.0 ∷ pos h.due.0 ∷ []
+hold_values None = pos 0 ∷ []
+hold_values (Some h) = pos 1 ∷ pos h.start.0 ∷ pos h.due.0 ∷ []
 
 -- 0, or 1 and the price
 abbrev price_values : Price → List ℤ
-price_values Absent = pos 0 ∷ []
-price_values (Given p) = pos 1 ∷ p.0 ∷ []
+price_values None = pos 0 ∷ []
+price_values (Some p) = pos 1 ∷ p.0 ∷ []
 
 -- limits, interest bounds, centre, market bounds of levels 1 to 3, up and down hold, bid, ask, shifts left, clock
 abbrev report_values : Report → List ℤ
@@ -112,5 +112,5 @@ report_values r =
     ++ (pos r.left ∷ pos r.clock.0 ∷ [])
 
 unfoldable pub report_said : ReportAnswer → Said
-report_said (ReportAnswer.Standing r) = record { number = 0; values = report_values r }
-report_said (ReportAnswer.Refused why) = record { number = event_number why; values = [] }
+report_said (Ok r) = record { number = 0; values = report_values r }
+report_said (Err why) = record { number = event_number why; values = [] }

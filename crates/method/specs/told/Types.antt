@@ -1,13 +1,26 @@
--- The types of answers, as src/lib.rt declares them.
-pub use Rattle.method.specs.declared.TableAnswer.{TableAnswer}
-pub use Rattle.method.specs.declared.LimitsAnswer.{LimitsAnswer}
-pub use Rattle.method.specs.declared.PlaceAnswer.{PlaceAnswer}
-pub use Rattle.method.specs.declared.PlaceAnswer.TheVariants.{Below, Inside, Above}
+-- The types of answers. Each is what is told, or the refusal in its place; the records are as src/lib.rt declares them.
+use Rattle.std.specs.Prelude.{Option, Result}
+use Rattle.method.specs.words.Types.{Limits, EventReason}
+pub use Rattle.method.specs.declared.TableRefusal.{TableRefusal}
+pub use Rattle.method.specs.declared.Place.{Place}
+pub use Rattle.method.specs.declared.Place.TheVariants.{Below, Inside, Above}
 pub use Rattle.method.specs.declared.BothBounds.{BothBounds}
 pub use Rattle.method.specs.declared.HoldTimes.{HoldTimes}
-pub use Rattle.method.specs.declared.HoldReport.{HoldReport}
-pub use Rattle.method.specs.declared.HoldReport.TheVariants.{NoHold, Holding}
 pub use Rattle.method.specs.declared.Report.{Report}
-pub use Rattle.method.specs.declared.ReportAnswer.{ReportAnswer}
 pub use Rattle.method.specs.declared.Closing.{Closing}
 pub use Rattle.method.specs.declared.Row.{Row}
+
+abbrev pub TableAnswer : Type 0
+TableAnswer = Result (Unit {0}) TableRefusal
+
+abbrev pub LimitsAnswer : Type 0
+LimitsAnswer = Result Limits EventReason
+
+abbrev pub PlaceAnswer : Type 0
+PlaceAnswer = Result Place EventReason
+
+abbrev pub HoldReport : Type 0
+HoldReport = Option HoldTimes
+
+abbrev pub ReportAnswer : Type 0
+ReportAnswer = Result Report EventReason

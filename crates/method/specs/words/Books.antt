@@ -1,13 +1,13 @@
 -- What an event makes of a book (METHOD 12).
-use Rattle.std.specs.Prelude.{Bool, true, false, List, ◌≡◌, ℕ, ℤ}
-use Rattle.method.specs.words.Types.{Price, Absent, Given, Book, Line, steps}
+use Rattle.std.specs.Prelude.{Bool, true, false, List, ◌≡◌, ℕ, ℤ, None, Some}
+use Rattle.method.specs.words.Types.{Price, Book, Line, steps}
 use Rattle.method.specs.words.Wire.{word, signed, bit}
 use Rattle.method.specs.words.Events.{IsQuote}
 
 -- the standing price that a price field says: there where its flag says present, and else absent
 pub record PriceSaid (present : Bool) (z : ℤ) (p : Price) : Type 0 where
-  pub given : present ≡ true → p ≡ Given (steps z)
-  pub absent : present ≡ false → p ≡ Absent
+  pub given : present ≡ true → p ≡ Some (steps z)
+  pub absent : present ≡ false → p ≡ None
 
 pub record BookSaid (b : List ℕ) (k : Book) : Type 0 where
   pub bid : PriceSaid (bit 0 (word b 8)) (signed (word b 12)) k.bid

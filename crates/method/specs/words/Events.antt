@@ -1,5 +1,5 @@
 -- What a byte string has to be to be an event (METHOD 12), and which answer it has in a state (METHOD 20).
-use Rattle.std.specs.Prelude.{true, false, List, ◌≡◌, ℕ, ◌≤◌, ◌<◌, pos, length, ◌<ℤ◌}
+use Rattle.std.specs.Prelude.{true, false, List, ◌≡◌, ℕ, ◌≤◌, ◌<◌, pos, length, ◌<ℤ◌, Ok, Err}
 use Rattle.numbers.specs.Ranges.{Within}
 use Rattle.method.specs.words.Types.{EventReason, EventAnswer, State, session_ids}
 use Rattle.method.specs.words.Wire.{word, signed, bit}
@@ -54,20 +54,20 @@ pub record IsCrossed (b : List ℕ) : Type 0 where
 -- ---- the answer to an event in state s: one clause for each way, and together they leave exactly one answer (METHOD 20)
 pub data EventAnswered (s : State) (b : List ℕ) : EventAnswer → Type 0 where
   -- refusal 12
-  malformed : (IsTick b → ⊥) → (QuoteLike b → ⊥) → EventAnswered s b (EventAnswer.Refused EventReason.Malformed)
+  malformed : (IsTick b → ⊥) → (QuoteLike b → ⊥) → EventAnswered s b (Err EventReason.Malformed)
   -- 15
-  absent_not_zero : QuoteLike b → (AbsentZero b → ⊥) → EventAnswered s b (EventAnswer.Refused EventReason.AbsentNotZero)
+  absent_not_zero : QuoteLike b → (AbsentZero b → ⊥) → EventAnswered s b (Err EventReason.AbsentNotZero)
   -- 16
-  price_out_of_range : QuoteLike b → AbsentZero b → (PricesIn b → ⊥) → EventAnswered s b (EventAnswer.Refused EventReason.PriceOutOfRange)
+  price_out_of_range : QuoteLike b → AbsentZero b → (PricesIn b → ⊥) → EventAnswered s b (Err EventReason.PriceOutOfRange)
   -- 10
-  after_end : IsEvent b → s.end.0 < word b 0 → EventAnswered s b (EventAnswer.Refused EventReason.AfterEnd)
+  after_end : IsEvent b → s.end.0 < word b 0 → EventAnswered s b (Err EventReason.AfterEnd)
   -- 11
   before_clock :
-      IsEvent b → word b 0 ≤ s.end.0 → word b 0 < s.clock.0 → EventAnswered s b (EventAnswer.Refused EventReason.BeforeClock)
+      IsEvent b → word b 0 ≤ s.end.0 → word b 0 < s.clock.0 → EventAnswered s b (Err EventReason.BeforeClock)
   -- 13
-  unknown_id : IsQuote b → InSession s b → Unknown s b → EventAnswered s b (EventAnswer.Refused EventReason.UnknownId)
+  unknown_id : IsQuote b → InSession s b → Unknown s b → EventAnswered s b (Err EventReason.UnknownId)
   -- 14
   crossed :
-      IsQuote b → InSession s b → (Unknown s b → ⊥) → IsCrossed b → EventAnswered s b (EventAnswer.Refused EventReason.Crossed)
-  tick_taken : IsTick b → InSession s b → EventAnswered s b EventAnswer.Accepted
-  quote_taken : IsQuote b → InSession s b → (Unknown s b → ⊥) → (IsCrossed b → ⊥) → EventAnswered s b EventAnswer.Accepted
+      IsQuote b → InSession s b → (Unknown s b → ⊥) → IsCrossed b → EventAnswered s b (Err EventReason.Crossed)
+  tick_taken : IsTick b → InSession s b → EventAnswered s b (Ok tt)
+  quote_taken : IsQuote b → InSession s b → (Unknown s b → ⊥) → (IsCrossed b → ⊥) → EventAnswered s b (Ok tt)

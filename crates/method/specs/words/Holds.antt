@@ -1,6 +1,6 @@
 -- Holds: which one goes first, what is left to serve, and what becomes of a hold (METHOD 14 to 17).
-use Rattle.std.specs.Prelude.{Bool, true, false, ◌≡◌, ℕ, ◌+◌, ◌≤◌, ◌<◌, get_or}
-use Rattle.method.specs.words.Types.{Seconds, Side, Up, Down, Hold, Idle, Since, Holds, ShiftLine, Due, State, blank}
+use Rattle.std.specs.Prelude.{Bool, true, false, ◌≡◌, ℕ, ◌+◌, ◌≤◌, ◌<◌, get_or, None, Some}
+use Rattle.method.specs.words.Types.{Seconds, Side, Up, Down, Hold, Holds, ShiftLine, Due, State, blank}
 
 -- the hold of a side, of a line's and of the line at a place of the table, from 0 (METHOD 14.1)
 abbrev pub hold_of : Side → Holds → Hold
@@ -13,7 +13,7 @@ hold_at side s place = hold_of side (get_or s.lines place blank).holds
 -- a hold that stands, and when it is due (METHOD 14.6)
 pub record Stands (s : State) (x : Due) : Type 0 where
   pub start : Seconds
-  pub held : hold_at x.side s x.place ≡ Since start
+  pub held : hold_at x.side s x.place ≡ Some start
   pub due : x.second.0 ≡ start.0 + s.hold.0
 
 -- of two holds, the one that goes first (METHOD 15.2)
@@ -42,14 +42,14 @@ Done t s = (x : Due) → Stands s x → x.second.0 < s.end.0 → t.0 < x.second.
 -- ---- the life of a hold, from `old` to `new` at second `now`, where `left` shifts are left
 -- It comes and goes with pressure, keeps its start while that lasts, and there is none once no shift is left (METHOD 14.2, 14.5, 18.2).
 pub record Life (left : ℕ) (now : Seconds) (pressed : Bool) (old new : Hold) : Type 0 where
-  pub none_left : left ≡ 0 → new ≡ Idle
-  pub ends : pressed ≡ false → new ≡ Idle
-  pub starts : 0 < left → pressed ≡ true → old ≡ Idle → new ≡ Since now
-  pub goes_on : (start : Seconds) → 0 < left → pressed ≡ true → old ≡ Since start → new ≡ Since start
+  pub none_left : left ≡ 0 → new ≡ None
+  pub ends : pressed ≡ false → new ≡ None
+  pub starts : 0 < left → pressed ≡ true → old ≡ None → new ≡ Some now
+  pub goes_on : (start : Seconds) → 0 < left → pressed ≡ true → old ≡ Some start → new ≡ Some start
 
 -- what a shift of a side leaves of a hold of a side (METHOD 16.4, 16.5)
 abbrev pub remaining : Side → Side → Hold → Hold
-remaining Up Up h = Idle
+remaining Up Up h = None
 remaining Up Down h = h
 remaining Down Up h = h
-remaining Down Down h = Idle
+remaining Down Down h = None

@@ -1,7 +1,7 @@
 -- When a line presses (METHOD 13).
-use Rattle.std.specs.Prelude.{Bool, false, ◌&&◌, not, ℤ, pos, ◌-ℤ◌, ◌*ℤ◌}
+use Rattle.std.specs.Prelude.{Bool, false, ◌&&◌, not, ℤ, pos, ◌-ℤ◌, ◌*ℤ◌, None, Some}
 use Rattle.std.specs.Int.Signed.{lt_z}
-use Rattle.method.specs.words.Types.{Millionths, Side, Up, Down, Limits, Price, Absent, Given, Book, Line}
+use Rattle.method.specs.words.Types.{Millionths, Side, Up, Down, Limits, Price, Book, Line}
 use Rattle.method.specs.words.Ranges.{whole, under_watch}
 
 -- a distance from a limit that is less than the near share of the corridor's width (METHOD 13.4)
@@ -11,9 +11,9 @@ near_by near k distance = lt_z (distance *ℤ pos whole) (pos near.0 *ℤ (k.upp
 -- A bid presses on the upper limit, an ask on the lower one unless that is frozen. Beyond the limit the distance is negative, and so less.
 -- (METHOD 13.2, 13.3, 13.5)
 unfoldable pub close : Side → Millionths → Limits → Price → Bool
-close side near k Absent = false
-close Up near k (Given bid) = near_by near k (k.upper.0 -ℤ bid.0)
-close Down near k (Given ask) = not k.frozen && near_by near k (ask.0 -ℤ k.lower.0)
+close side near k None = false
+close Up near k (Some bid) = near_by near k (k.upper.0 -ℤ bid.0)
+close Down near k (Some ask) = not k.frozen && near_by near k (ask.0 -ℤ k.lower.0)
 
 -- the price that may press on a side
 abbrev pub price : Side → Book → Price

@@ -1,7 +1,7 @@
 -- Rules 1, 2 and 3 (METHOD 24) as statements over the words, with no proof. The name in brackets is the theorem; those of a rule stand in the
 -- proofs file of the rule's name. That tables are accepted and shifts are made at all, so that no statement is empty, is in the figures
 -- (`starred_claim`, `examples_claim`).
-use Rattle.std.specs.Prelude.{List, [], ◌∷◌, ◌++◌, ◌↔◌, ◌≡◌, ℕ, ◌+◌, ◌≤◌}
+use Rattle.std.specs.Prelude.{List, [], ◌∷◌, ◌++◌, ◌↔◌, ◌≡◌, ℕ, ◌+◌, ◌≤◌, Ok, Err}
 use Rattle.method.specs.words.Types.{Seconds, Up, Down, Line, ShiftLine, TableReason, EventReason, EventAnswer, State}
 use Rattle.method.specs.words.Layout.{header_of}
 use Rattle.method.specs.words.Tables.{opened, refused, TableAnswered}
@@ -41,7 +41,7 @@ pub data Moment (o : State) : List ShiftLine → State → Type 0 where
   shift :
       {cs : List ShiftLine} {s n : State} → Moment o cs s → (t : Seconds) (c : ShiftLine) → First t s c → ShiftedTo s c n → Moment o (cs ++ (c ∷ [])) n
   event :
-      {cs : List ShiftLine} {s n : State} → Moment o cs s → (b : List ℕ) → EventAnswered s b EventAnswer.Accepted → AppliedTo s b n → Moment o cs n
+      {cs : List ShiftLine} {s n : State} → Moment o cs s → (b : List ℕ) → EventAnswered s b (Ok tt) → AppliedTo s b n → Moment o cs n
 
 -- ==== RULE 1
 -- Every list of bytes opens a state or is refused with a number and a line: exactly one of the answers of `TableAnswered`. Which lines an accepted
@@ -65,7 +65,7 @@ RefusedOpensNothing = (b : List ℕ) (why : TableReason) (line : ℕ) → TableA
 abbrev pub RefusedChangesNothing : Type 0
 RefusedChangesNothing =
     (o : State) (past : List (List ℕ)) (told : List Answer) (m : State) (b : List ℕ) (why : EventReason) → AnswersInWords o past told m
-    → EventAnswered m b (EventAnswer.Refused why) → (rest : List (List ℕ)) (qs : List Answer) (n : State)
+    → EventAnswered m b (Err why) → (rest : List (List ℕ)) (qs : List Answer) (n : State)
     → AnswersInWords o (past ++ b ∷ rest) qs n ↔ Struck o past told why rest qs n
 
 -- ==== RULE 2

@@ -1,6 +1,6 @@
 -- A session in words, step by step and with nothing computed in them: what a shift and an event make of the whole state, and which answers a list
 -- of byte strings has, with the state that it leaves (METHOD 15, 16, 18, 19).
-use Rattle.std.specs.Prelude.{List, [], ◌∷◌, ◌++◌, ◌≡◌, ℕ, ◌+◌}
+use Rattle.std.specs.Prelude.{List, [], ◌∷◌, ◌++◌, ◌≡◌, ℕ, ◌+◌, Ok, Err}
 use Rattle.method.specs.words.Types.{Millionths, Seconds, Side, Line, ShiftLine, EventReason, EventAnswer, seconds, State}
 use Rattle.method.specs.words.Wire.{word}
 use Rattle.method.specs.words.Events.{EventAnswered}
@@ -48,7 +48,7 @@ pub data Serves (t : Seconds) : State → List ShiftLine → State → Type 0 wh
 
 -- the event b is accepted in state s, is answered with the shift lines cs, and leaves state n (METHOD 19.3)
 pub record Follows (s : State) (b : List ℕ) (cs : List ShiftLine) (n : State) : Type 0 where
-  pub taken : EventAnswered s b EventAnswer.Accepted
+  pub taken : EventAnswered s b (Ok tt)
   pub between : State
   pub served : Serves (seconds (word b 0)) s cs between
   pub all_served : Done (seconds (word b 0)) between
@@ -67,7 +67,7 @@ pub data AnswersInWords : State → List (List ℕ) → List Answer → State �
       {s m n : State} {b : List ℕ} {bs : List (List ℕ)} {cs : List ShiftLine} {rs : List Answer} → Follows s b cs m → AnswersInWords m bs rs n
       → AnswersInWords s (b ∷ bs) (accepted cs ∷ rs) n
   turned_away :
-      {s n : State} {b : List ℕ} {bs : List (List ℕ)} {why : EventReason} {rs : List Answer} → EventAnswered s b (EventAnswer.Refused why)
+      {s n : State} {b : List ℕ} {bs : List (List ℕ)} {why : EventReason} {rs : List Answer} → EventAnswered s b (Err why)
       → AnswersInWords s bs rs n → AnswersInWords s (b ∷ bs) (refused why ∷ rs) n
 
 abbrev pub lines_of : Answer → List ShiftLine
