@@ -1,8 +1,8 @@
 -- The rows of a report say what the method says of it: by the ways in which two holds and two prices may stand. Assumes nothing.
+use Rattle.std.specs.Prelude.{None, Some, Ok}
 use mathlib.Core.Path.{◌≡◌, refl}
-use Rattle.method.specs.declared.ReportAnswer.TheVariants.{Standing}
 use Rattle.method.specs.told.Refusals.{report_said}
-use Rattle.host_report.specs.Names.{Price, Absent, Given, HoldReport, NoHold, Holding, Report}
+use Rattle.host_report.specs.Names.{Price, HoldReport, Report}
 use Rattle.host_report.specs.ReportRows.{hold_told, price_told, limit_row, market_row, hold_row, book_row, report_rows, said_in, ReportAsSaid}
 
 -- the report with other holds and another book
@@ -26,20 +26,20 @@ pub report_as_said : ReportAsSaid
 unfolding said_in report_rows limit_row market_row hold_row book_row hold_told price_told report_said
 report_as_said r = go r.up r.down r.book.bid r.book.ask
   where
-    go : (u d : HoldReport) (b a : Price) → said_in (report_rows (standing r u d b a)) ≡ (report_said (Standing (standing r u d b a))).values
-    go NoHold NoHold Absent Absent = refl
-    go NoHold NoHold Absent (Given q) = refl
-    go NoHold NoHold (Given p) Absent = refl
-    go NoHold NoHold (Given p) (Given q) = refl
-    go NoHold (Holding y) Absent Absent = refl
-    go NoHold (Holding y) Absent (Given q) = refl
-    go NoHold (Holding y) (Given p) Absent = refl
-    go NoHold (Holding y) (Given p) (Given q) = refl
-    go (Holding x) NoHold Absent Absent = refl
-    go (Holding x) NoHold Absent (Given q) = refl
-    go (Holding x) NoHold (Given p) Absent = refl
-    go (Holding x) NoHold (Given p) (Given q) = refl
-    go (Holding x) (Holding y) Absent Absent = refl
-    go (Holding x) (Holding y) Absent (Given q) = refl
-    go (Holding x) (Holding y) (Given p) Absent = refl
-    go (Holding x) (Holding y) (Given p) (Given q) = refl
+    go : (u d : HoldReport) (b a : Price) → said_in (report_rows (standing r u d b a)) ≡ (report_said (Ok (standing r u d b a))).values
+    go None None None None = refl
+    go None None None (Some q) = refl
+    go None None (Some p) None = refl
+    go None None (Some p) (Some q) = refl
+    go None (Some y) None None = refl
+    go None (Some y) None (Some q) = refl
+    go None (Some y) (Some p) None = refl
+    go None (Some y) (Some p) (Some q) = refl
+    go (Some x) None None None = refl
+    go (Some x) None None (Some q) = refl
+    go (Some x) None (Some p) None = refl
+    go (Some x) None (Some p) (Some q) = refl
+    go (Some x) (Some y) None None = refl
+    go (Some x) (Some y) None (Some q) = refl
+    go (Some x) (Some y) (Some p) None = refl
+    go (Some x) (Some y) (Some p) (Some q) = refl

@@ -2,69 +2,33 @@
 
 #![tactic(auto)]
 
-ghost use Rattle.std.specs.Prelude.{◌≡◌, pos};
+ghost use Rattle.std.specs.Prelude.{◌≡◌, [], ◌∷◌, pos};
 ghost use Rattle.method.specs.told.Refusals.{mark};
 ghost use Rattle.host_report.specs.ReportRows.{hold_told, price_told, limit_row, market_row, hold_row, book_row, report_rows};
 
-use method::{BothBounds, HoldReport, Limits, Price, Report};
+use method::{Book, BothBounds, HoldTimes, Limits, Price, Report};
 use numbers::{Seconds, Steps};
 
 pub fn mark_number(b: bool) -> i64
     ensures { result ≡ mark b }
 {
-    if b { 1 } else { 0 }
-}
-
-fn wide(n: u32) -> i64
-    ensures { result ≡ pos n }
-{
-    (n as u64) as i64
+    i64::from(b)
 }
 
 // Whether a hold stands, since when, and when it falls due.
-#[derive(Clone, Copy)]
-pub struct HoldNumbers {
-    pub stands: i64,
-    pub start: i64,
-    pub due: i64,
-}
-
 #[tactic(auto, unfolding(crate::specs::ReportRows::hold_told))]
-fn hold_numbers(h: HoldReport) -> HoldNumbers
-    ensures { result ≡ hold_told h }
+fn hold_numbers(h: Option<HoldTimes>) -> (i64, i64, i64)
+    ensures { result.0 ∷ result.1 ∷ result.2 ∷ [] ≡ hold_told h }
 {
-    match h {
-        HoldReport::NoHold => HoldNumbers {
-            stands: 0,
-            start: 0,
-            due: 0,
-        },
-        HoldReport::Holding(t) => HoldNumbers {
-            stands: 1,
-            start: wide(t.start.0),
-            due: wide(t.due.0),
-        },
-    }
+    h.map_or((0, 0, 0), |t| (1, i64::from(t.start.0), i64::from(t.due.0)))
 }
 
 // Whether a price is given, and which.
-#[derive(Clone, Copy)]
-pub struct PriceNumbers {
-    pub given: i64,
-    pub price: i64,
-}
-
 #[tactic(auto, unfolding(crate::specs::ReportRows::price_told))]
-fn price_numbers(p: Price) -> PriceNumbers
-    ensures { result ≡ price_told p }
+fn price_numbers(p: Price) -> (i64, i64)
+    ensures { result.0 ∷ result.1 ∷ [] ≡ price_told p }
 {
-    match p {
-        Price::Absent => PriceNumbers { given: 0, price: 0 },
-        Price::Given(z) => PriceNumbers {
-            given: 1,
-            price: z.0,
-        },
-    }
+    p.map_or((0, 0), |z| (1, z.0))
 }
 
 // The limits, the interest bounds and the centre.
@@ -98,26 +62,35 @@ fn market_row(level1: BothBounds, level2: BothBounds, level3: BothBounds) -> [i6
 }
 
 #[tactic(auto, unfolding(crate::specs::ReportRows::hold_row))]
-fn hold_row(up: HoldReport, down: HoldReport) -> [i64; 6]
+fn hold_row(up: Option<HoldTimes>, down: Option<HoldTimes>) -> [i64; 6]
     ensures { result ≡ hold_row up down }
 {
-    let u = hold_numbers(up);
-    let d = hold_numbers(down);
-    [u.stands, u.start, u.due, d.stands, d.start, d.due]
+    let (up_stands, up_start, up_due) = hold_numbers(up);
+    let (down_stands, down_start, down_due) = hold_numbers(down);
+    [
+        up_stands,
+        up_start,
+        up_due,
+        down_stands,
+        down_start,
+        down_due,
+    ]
 }
 
 // The bid, the ask, the shifts left and the clock.
 #[tactic(auto, unfolding(crate::specs::ReportRows::book_row))]
-fn book_row(bid: PriceNumbers, ask: PriceNumbers, left: u32, clock: Seconds) -> [i64; 6]
-    ensures { result ≡ book_row bid ask left clock }
+fn book_row(book: Book, left: u32, clock: Seconds) -> [i64; 6]
+    ensures { result ≡ book_row book left clock }
 {
+    let (bid_given, bid) = price_numbers(book.bid);
+    let (ask_given, ask) = price_numbers(book.ask);
     [
-        bid.given,
-        bid.price,
-        ask.given,
-        ask.price,
-        wide(left),
-        wide(clock.0),
+        bid_given,
+        bid,
+        ask_given,
+        ask,
+        i64::from(left),
+        i64::from(clock.0),
     ]
 }
 
@@ -125,23 +98,10 @@ fn book_row(bid: PriceNumbers, ask: PriceNumbers, left: u32, clock: Seconds) -> 
 pub fn report_rows(r: Report) -> [[i64; 6]; 4]
     ensures { result ≡ report_rows r }
 {
-    let limits = r.limits;
-    let interest = r.interest;
-    let centre = r.centre;
-    let level1 = r.level1;
-    let level2 = r.level2;
-    let level3 = r.level3;
-    let up = r.up;
-    let down = r.down;
-    let book = r.book;
-    let bid = book.bid;
-    let ask = book.ask;
-    let clock = r.clock;
-    let b = price_numbers(bid);
-    let a = price_numbers(ask);
-    let first = limit_row(limits, interest, centre);
-    let second = market_row(level1, level2, level3);
-    let third = hold_row(up, down);
-    let last = book_row(b, a, r.left, clock);
-    [first, second, third, last]
+    [
+        limit_row(r.limits, r.interest, r.centre),
+        market_row(r.level1, r.level2, r.level3),
+        hold_row(r.up, r.down),
+        book_row(r.book, r.left, r.clock),
+    ]
 }
