@@ -2,8 +2,7 @@
 
 #![tactic(auto)]
 
-ghost use Rattle.std.specs.Prelude.{◌≡◌, map, ◌+◌, ◌*◌, ◌≤◌, pos, length, take};
-ghost use Rattle.method.specs.words.Ranges.{most_shifts};
+ghost use Rattle.std.specs.Prelude.{◌≡◌, map, ◌+◌, ◌*◌, ◌≤◌, pos, length};
 ghost use Rattle.method.specs.declared.Row.TheVariants as RowOf;
 ghost use Rattle.method.specs.told.Refusals.{table_number, field_place, field_number, event_number};
 ghost use Rattle.method.specs.told.Rows.{row_numbers, numbers_of, side_number};
@@ -12,54 +11,30 @@ ghost use Rattle.rows.specs.Fits.{largest_number, Fits};
 
 use method::{Closing, EventReason, Field, Row, ShiftLine, Side, TableReason};
 
-// The answer that is written in rows: how many numbers there are, or how many the lent buffer would have to take, and nothing done.
-#[derive(Clone, Copy)]
-pub enum RowsAnswer {
-    Written(usize),
-    NoRoom(usize),
-}
-
-fn wide(n: u32) -> i64
-    ensures { result ≡ pos n }
-{
-    (n as u64) as i64
-}
-
-fn wide_place(place: usize) -> i64
-    requires { place ≤ largest_number }
-    ensures { result ≡ pos place }
-{
-    place as i64
+// Why nothing was done: the lent buffer would have to take so many numbers. Where there is room, the answer is how many were written.
+#[derive(Clone, Copy, PartialEq, Eq)]
+pub struct NoRoom {
+    pub needed: usize,
 }
 
 fn side_number(side: Side) -> i64
     ensures { result ≡ pos (side_number side) }
 {
-    match side {
-        Side::Up => 0,
-        Side::Down => 1,
-    }
+    side as i64
 }
 
 #[tactic(auto, unfolding(method::specs::told::Refusals::event_number))]
 pub fn event_number(why: EventReason) -> i64
     ensures { result ≡ pos (event_number why) }
 {
-    match why {
-        EventReason::AfterEnd => 10,
-        EventReason::BeforeClock => 11,
-        EventReason::Malformed => 12,
-        EventReason::UnknownId => 13,
-        EventReason::Crossed => 14,
-        EventReason::AbsentNotZero => 15,
-        EventReason::PriceOutOfRange => 16,
-    }
+    why as i64
 }
 
 #[tactic(auto, unfolding(method::specs::told::Refusals::table_number))]
 fn table_number(why: TableReason) -> i64
     ensures { result ≡ pos (table_number why) }
 {
+    // One variant has a field, so that no `as` gives the numbers.
     match why {
         TableReason::Length => 1,
         TableReason::Edition => 2,
@@ -78,17 +53,7 @@ fn table_number(why: TableReason) -> i64
 fn field_place(f: Field) -> i64
     ensures { result ≡ pos (field_place f) }
 {
-    match f {
-        Field::Price => 1,
-        Field::Spot => 2,
-        Field::Least => 3,
-        Field::Rate1 => 4,
-        Field::Rate2 => 5,
-        Field::Rate3 => 6,
-        Field::Width => 7,
-        Field::Days => 8,
-        Field::Flags => 10,
-    }
+    f as i64
 }
 
 // That of the field at fault, and 0 where no field is named.
@@ -97,15 +62,8 @@ fn field_number(why: TableReason) -> i64
     ensures { result ≡ pos (field_number why) }
 {
     match why {
-        TableReason::Length => 0,
-        TableReason::Edition => 0,
-        TableReason::Header => 0,
-        TableReason::Key => 0,
         TableReason::Field(f) => field_place(f),
-        TableReason::Id => 0,
-        TableReason::Exponent => 0,
-        TableReason::HalfMove => 0,
-        TableReason::Corridor => 0,
+        _ => 0,
     }
 }
 
@@ -115,8 +73,14 @@ fn field_number(why: TableReason) -> i64
 fn shift(c: ShiftLine) -> [i64; 6]
     ensures { result ≡ row_numbers (RowOf.Shift c) }
 {
-    let side = c.side;
-    [1, wide(c.second.0), side_number(side), wide(c.id), 0, 0]
+    [
+        1,
+        i64::from(c.second.0),
+        side_number(c.side),
+        i64::from(c.id),
+        0,
+        0,
+    ]
 }
 
 #[tactic(auto, unfolding(method::specs::told::Rows::row_numbers))]
@@ -124,14 +88,21 @@ fn refused_event(why: EventReason, place: usize) -> [i64; 6]
     requires { place ≤ largest_number }
     ensures { result ≡ row_numbers (RowOf.RefusedEvent why place) }
 {
-    [2, event_number(why), wide_place(place), 0, 0, 0]
+    [2, event_number(why), place as i64, 0, 0, 0]
 }
 
 #[tactic(auto, unfolding(method::specs::told::Rows::row_numbers))]
 fn refused_table(why: TableReason, line: u32) -> [i64; 6]
     ensures { result ≡ row_numbers (RowOf.RefusedTable why line) }
 {
-    [3, table_number(why), wide(line), field_number(why), 0, 0]
+    [
+        3,
+        table_number(why),
+        i64::from(line),
+        field_number(why),
+        0,
+        0,
+    ]
 }
 
 #[tactic(auto, unfolding(method::specs::told::Rows::row_numbers))]
@@ -140,7 +111,7 @@ fn closed(c: Closing) -> [i64; 6]
 {
     [
         4,
-        wide(c.id),
+        i64::from(c.id),
         c.lower.0,
         c.upper.0,
         c.lowerbound.0,
@@ -161,39 +132,26 @@ pub fn row_numbers(row: Row) -> [i64; 6]
     }
 }
 
-#[tactic(auto, using(crate::proofs::Buffer::all_copied))]
-fn copied(out: &mut [i64], at: usize, numbers: [i64; 6])
-    requires { at + 6 ≤ length out.old }
-    ensures { out.new ≡ written out.old at numbers }
-{
-    let mut i: usize = 0;
-    while i < 6 {
-        out[at + i] = numbers[i];
-        i = i + 1;
-    }
-}
-
 // A row written into the buffer from `at` on.
 pub fn write(out: &mut [i64], at: usize, row: Row)
     requires { (at + 6 ≤ length out.old) × Fits row }
     ensures { out.new ≡ written out.old at (row_numbers row) }
 {
-    copied(out, at, row_numbers(row));
+    out[at..at + 6].copy_from_slice(&row_numbers(row));
 }
 
-// The first `made` shift lines, row by row; the answer is the place after them.
-pub fn write_shifts(out: &mut [i64], at: usize, shifts: [ShiftLine; 16], made: usize) -> usize
-    requires { (made ≤ most_shifts) × (at + 6 * made ≤ length out.old) }
-    ensures value { result ≡ at + 6 * made }
-    ensures out_after { out.new ≡ written out.old at (numbers_of (map Row.Shift (take made shifts))) }
+// The shift lines, row by row; the answer is the place after them.
+pub fn write_shifts(out: &mut [i64], at: usize, shifts: &[ShiftLine]) -> usize
+    requires { at + 6 * length shifts.now ≤ length out.old }
+    ensures value { result ≡ at + 6 * length shifts.now }
+    ensures out_after { out.new ≡ written out.old at (numbers_of (map Row.Shift shifts.now)) }
 {
-    let mut i: usize = 0;
-    while i < made {
-        let c = shifts[i];
-        write(out, at + 6 * i, Row::Shift(c));
-        i = i + 1;
+    let mut next = at;
+    for c in shifts {
+        write(out, next, Row::Shift(*c));
+        next += 6;
     }
-    at + 6 * made
+    next
 }
 
 // The room for the rows of so many bytes of events: a row for each event, and as many more.
@@ -201,9 +159,5 @@ pub fn needed(size: usize, more: usize) -> usize
     requires { more ≤ 100 }
     ensures { result ≡ needed size more }
 {
-    let whole = size / 20;
-    if size % 20 == 0 {
-        return 6 * (whole + more);
-    }
-    6 * (whole + 1 + more)
+    6 * (size.div_ceil(20) + more)
 }
