@@ -1,10 +1,7 @@
 -- `host_head::distinct`: if the ids from `i` on are distinct, all are.
-use Rattle.std.proofs.Common.{◌-◌, ◌≤◌, drop}
+use Rattle.std.proofs.Common.{drop}
 use Rattle.method.specs.computed.Sound.{Distinct}
 use Rattle.host_head.proofs.distinct.Given as goal
 
 abbrev pub invariant-loop-i : goal.invariant-loop-i
-invariant-loop-i l = record { within : l.i ≤ l.n; none_twice_before : Distinct (drop l.i l.ids) → Distinct l.ids }
-
-abbrev pub decreases-loop-i : goal.decreases-loop-i
-decreases-loop-i l = l.n - l.i
+invariant-loop-i l = Distinct (drop l.i l.ids) → Distinct l.ids
