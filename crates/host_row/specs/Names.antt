@@ -1,8 +1,5 @@
 -- The data of `method` that this crate names, and its own.
-pub use Rattle.method.specs.declared.Price.{Price}
-pub use Rattle.method.specs.declared.Price.TheVariants.{Absent, Given}
-pub use Rattle.method.specs.declared.Hold.{Hold}
-pub use Rattle.method.specs.declared.Hold.TheVariants.{Idle, Since}
+pub use Rattle.method.specs.words.Types.{Price, Hold}
 pub use Rattle.method.specs.declared.Terms.{Terms}
 pub use Rattle.method.specs.declared.Market.{Market}
 pub use Rattle.method.specs.declared.Limits.{Limits}

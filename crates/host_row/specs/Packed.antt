@@ -1,8 +1,8 @@
 -- A line as a pair of rows of 16 numbers, and the head of a session as one such row. Any numbers read as some line and as some head, so
 -- nothing is asked of a row; what stands at the places that are not named here says nothing.
-use Rattle.std.specs.Prelude.{Bool, cond, List, [], ℕ, ◌/◌, ◌%◌, eqb, ltb, ℤ, pos, negsuc, get_or}
+use Rattle.std.specs.Prelude.{Bool, cond, List, [], ℕ, ◌/◌, ◌%◌, eqb, ltb, ℤ, pos, negsuc, get_or, None, Some}
 use Rattle.method.specs.words.Types.{steps, millionths, seconds, billionths}
-use Rattle.host_row.specs.Names.{Price, Absent, Given, Hold, Idle, Since, Terms, Market, Limits, Book, Holds, Line, Head}
+use Rattle.host_row.specs.Names.{Price, Hold, Terms, Market, Limits, Book, Holds, Line, Head}
 
 -- ---- one number
 abbrev pub word_in : ℕ → ℕ
@@ -18,10 +18,10 @@ signed_in n = cond (eqb (n % 2) 0) (pos (n / 2)) (negsuc (n / 2))
 
 -- ---- two numbers: whether it is there, and what
 unfoldable pub price_in : ℕ → ℕ → Price
-price_in there n = cond (mark_in there) (Given (steps (signed_in n))) Absent
+price_in there n = cond (mark_in there) (Some (steps (signed_in n))) None
 
 unfoldable pub hold_in : ℕ → ℕ → Hold
-hold_in there n = cond (mark_in there) (Since (seconds (word_in n))) Idle
+hold_in there n = cond (mark_in there) (Some (seconds (word_in n))) None
 
 -- ---- a row
 abbrev pub at : List ℕ → ℕ → ℕ

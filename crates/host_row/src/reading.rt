@@ -8,10 +8,11 @@ use crate::{Head, Pair, Row};
 use method::{Book, Factors, Hold, Holds, Limits, Line, Market, Price, Terms};
 use numbers::{Billionths, Millionths, Seconds, Steps};
 
+// The low half. A cast may lose nothing, and the library has no other way to drop bits.
 fn word(n: u64) -> u32
     ensures { result ≡ word_in n }
 {
-    (n % 4294967296) as u32
+    (n % 4_294_967_296) as u32
 }
 
 #[tactic(auto, unfolding(crate::specs::Packed::mark_in))]
@@ -26,33 +27,21 @@ fn signed(n: u64) -> Steps
     ensures { result ≡ steps (signed_in n) }
 {
     let half = (n / 2) as i64;
-    if n % 2 == 0 {
-        return Steps(half);
-    }
-    Steps(-1 - half)
+    if n % 2 == 0 { Steps(half) } else { Steps(-1 - half) }
 }
 
-#[tactic(auto, unfolding(crate::specs::Packed::price_in, crate::specs::Packed::mark_in))]
+#[tactic(auto, unfolding(crate::specs::Packed::price_in))]
 fn price(there: u64, n: u64) -> Price
     ensures { result ≡ price_in there n }
 {
-    let given = mark(there);
-    if given {
-        let z = signed(n);
-        return Price::Given(z);
-    }
-    Price::Absent
+    mark(there).then_some(signed(n))
 }
 
-#[tactic(auto, unfolding(crate::specs::Packed::hold_in, crate::specs::Packed::mark_in))]
+#[tactic(auto, unfolding(crate::specs::Packed::hold_in))]
 fn hold(there: u64, n: u64) -> Hold
     ensures { result ≡ hold_in there n }
 {
-    let stands = mark(there);
-    if stands {
-        return Hold::Since(Seconds(word(n)));
-    }
-    Hold::Idle
+    mark(there).then_some(Seconds(word(n)))
 }
 
 // ---- what bounds are drawn from, in a line's first row

@@ -7,66 +7,29 @@ use crate::{Head, Pair, Row};
 use method::{Book, Hold, Holds, Limits, Line, Market, Price, Terms};
 use numbers::Steps;
 
-fn word_number(n: u32) -> u64
-    ensures { word_in result ≡ n }
-{
-    n as u64
-}
-
-#[tactic(auto, unfolding(crate::specs::Packed::mark_in))]
-fn mark_number(b: bool) -> u64
-    ensures { mark_in result ≡ b }
-{
-    if b { 1 } else { 0 }
-}
-
 fn signed_number(z: Steps) -> u64
     ensures { signed_in result ≡ z.0 }
 {
     if z.0 < 0 {
-        let m = (-1 - z.0) as u64;
-        return 2 * m + 1;
+        2 * ((-1 - z.0) as u64) + 1
+    } else {
+        2 * (z.0 as u64)
     }
-    2 * (z.0 as u64)
 }
 
-// The two numbers of a price or a hold.
-#[derive(Clone, Copy)]
-pub struct Two {
-    pub there: u64,
-    pub number: u64,
-}
-
+// The two numbers of a price: whether it is there, and what.
 #[tactic(auto, unfolding(crate::specs::Packed::price_in, crate::specs::Packed::mark_in))]
-fn price_numbers(p: Price) -> Two
-    ensures { price_in result.there result.number ≡ p }
+fn price_numbers(p: Price) -> (u64, u64)
+    ensures { price_in result.0 result.1 ≡ p }
 {
-    match p {
-        Price::Absent => Two {
-            there: 0,
-            number: 0,
-        },
-        Price::Given(z) => Two {
-            there: 1,
-            number: signed_number(z),
-        },
-    }
+    p.map_or((0, 0), |z| (1, signed_number(z)))
 }
 
 #[tactic(auto, unfolding(crate::specs::Packed::hold_in, crate::specs::Packed::mark_in))]
-fn hold_numbers(h: Hold) -> Two
-    ensures { hold_in result.there result.number ≡ h }
+fn hold_numbers(h: Hold) -> (u64, u64)
+    ensures { hold_in result.0 result.1 ≡ h }
 {
-    match h {
-        Hold::Idle => Two {
-            there: 0,
-            number: 0,
-        },
-        Hold::Since(start) => Two {
-            there: 1,
-            number: word_number(start.0),
-        },
-    }
+    h.map_or((0, 0), |start| (1, u64::from(start.0)))
 }
 
 // A line's first row: what its bounds are drawn from.
@@ -75,8 +38,8 @@ fn drawn_row(terms: Terms, market: Market) -> Row
     ensures { (terms_in result ≡ terms) × (market_in result ≡ market) }
 {
     [
-        word_number(terms.id),
-        word_number(terms.flags),
+        u64::from(terms.id),
+        u64::from(terms.flags),
         signed_number(terms.halfmove),
         terms.factors.up.0,
         terms.factors.down.0,
@@ -95,30 +58,26 @@ fn drawn_row(terms: Terms, market: Market) -> Row
 }
 
 // Its second row: what pressure is judged on.
-#[tactic(auto, unfolding(crate::specs::Packed::limits_in, crate::specs::Packed::book_in, crate::specs::Packed::holds_in))]
+#[tactic(auto, unfolding(crate::specs::Packed::mark_in, crate::specs::Packed::limits_in, crate::specs::Packed::book_in, crate::specs::Packed::holds_in))]
 pub fn judged_row(limits: Limits, book: Book, holds: Holds) -> Row
     ensures { (limits_in result ≡ limits) × (book_in result ≡ book) × (holds_in result ≡ holds) }
 {
-    let bid = book.bid;
-    let ask = book.ask;
-    let up = holds.up;
-    let down = holds.down;
-    let b = price_numbers(bid);
-    let a = price_numbers(ask);
-    let u = hold_numbers(up);
-    let d = hold_numbers(down);
+    let bid = price_numbers(book.bid);
+    let ask = price_numbers(book.ask);
+    let up = hold_numbers(holds.up);
+    let down = hold_numbers(holds.down);
     [
         signed_number(limits.upper),
         signed_number(limits.lower),
-        mark_number(limits.frozen),
-        b.there,
-        b.number,
-        a.there,
-        a.number,
-        u.there,
-        u.number,
-        d.there,
-        d.number,
+        u64::from(limits.frozen),
+        bid.0,
+        bid.1,
+        ask.0,
+        ask.1,
+        up.0,
+        up.1,
+        down.0,
+        down.1,
         0,
         0,
         0,
@@ -145,10 +104,10 @@ pub fn head_row(h: Head) -> Row
 {
     let mut row: Row = [0; 16];
     row[0] = h.count as u64;
-    row[1] = word_number(h.clock.0);
-    row[2] = word_number(h.end.0);
-    row[3] = word_number(h.hold.0);
-    row[4] = word_number(h.left);
-    row[5] = word_number(h.near.0);
+    row[1] = u64::from(h.clock.0);
+    row[2] = u64::from(h.end.0);
+    row[3] = u64::from(h.hold.0);
+    row[4] = u64::from(h.left);
+    row[5] = u64::from(h.near.0);
     row
 }

@@ -7,5 +7,5 @@ use Rattle.host_row.proofs.writing.signed_number.Goals as goal
 pub returns-then-z-lt0 : goal.returns-then-z-lt0
 returns-then-z-lt0 c = below_back c.args.z.0 (search rules) (search (rules, orders))
 
-pub returns : goal.returns
-returns c = above_back c.args.z.0 (search rules) (search (rules, orders))
+pub returns-else-z-lt0 : goal.returns-else-z-lt0
+returns-else-z-lt0 c = above_back c.args.z.0 (search rules) (search (rules, orders))
