@@ -1,53 +1,20 @@
--- The search for an id: none of the ids before i is it. Assumes nothing.
+-- The search for an id, and a guess at its place. Assumes nothing.
+use Rattle.std.specs.Prelude.{Some, None, Ok, Err}
+use Rattle.std.specs.List.{position_or_len}
+use Rattle.std.proofs.lemmas.List.Recursion.{is_position_or_len}
 use mathlib.Core.Path.{◌≡◌, refl, sym, ap, ◌∙◌}
 use mathlib.Core.Bool.{Bool, true, false, cond, ◌||◌}
 use mathlib.Core.List.{List, [], ◌∷◌}
-use Prim.Native.Nat.{ℕ, zero, suc, ◌+◌, ◌≤◌, ◌<◌}
-use native.Mathlib.Numerals.{add-one}
+use Prim.Native.Nat.{ℕ, zero, suc, ◌+◌, ◌<◌}
 use native.Mathlib.Omega.{arith}
 use borrow.Author.Tests.{eq-eqb, ne_eqb, ltb-true, ltb-false, lt-ltb, le-ltb}
 use lib.Dec.{eqb, ltb}
-use lib.ListN.{length, get_or, drop}
-use lib.Seq.{drop-cons, drop-length}
+use lib.ListN.{length, get_or}
 use Rattle.method.specs.told.Questions.{listed}
 use Rattle.method.specs.computed.Sound.{Distinct}
 use Rattle.method.proofs.Every.{every_at}
-use Rattle.verdict.specs.Names.{Event, Damaged, Tick, Quoted}
-use Rattle.verdict.specs.Decided.{slot_of, place_of}
-
-pub record Passed (id : ℕ) (ids : List ℕ) (i : ℕ) : Type 0 where
-  pub on : place_of id ids ≡ i + place_of id (drop i ids)
-
-module _ (id : ℕ) (ids : List ℕ) (i : ℕ) (p : Passed id ids i) where
-  pub passed_turn : i < length ids → (get_or ids i 0 ≡ id → ⊥) → Passed id ids (i + 1)
-  passed_turn h e = record { on = p.on ∙ later }
-    where
-      one : place_of id (drop i ids) ≡ suc (place_of id (drop (suc i) ids))
-      one = ap (place_of id) (drop-cons ids i 0 h) ∙ (unfold place_of in rw (ne_eqb (get_or ids i 0) id e))
-
-      later : i + place_of id (drop i ids) ≡ i + 1 + place_of id (drop (i + 1) ids)
-      later = rw (add-one i) (omega (arith, one))
-
-  pub passed_found : i < length ids → get_or ids i 0 ≡ id → i ≡ place_of id ids
-  passed_found h e = omega (arith, p.on, one)
-    where
-      one : place_of id (drop i ids) ≡ 0
-      one = ap (place_of id) (drop-cons ids i 0 h) ∙ (unfold place_of in rw (eq-eqb (get_or ids i 0) id e))
-
-  pub passed_all : i ≡ length ids → i ≡ place_of id ids
-  passed_all e = omega (arith, p.on, one)
-    where
-      one : place_of id (drop i ids) ≡ 0
-      one = ap (λ (k : ℕ). place_of id (drop k ids)) e ∙ ap (place_of id) (drop-length ids) ∙ (unfold place_of in refl)
-
-pub place-most : (id : ℕ) (ids : List ℕ) → place_of id ids ≤ length ids
-unfolding place_of
-place-most id [] = omega arith
-place-most id (j ∷ ids) = go (eqb j id) (place-most id ids)
-  where
-    go : (b : Bool) → place_of id ids ≤ length ids → cond b 0 (suc (place_of id ids)) ≤ suc (length ids)
-    go true h = omega arith
-    go false h = omega arith
+use Rattle.verdict.specs.Names.{ReadEvent, Tick, Quoted}
+use Rattle.verdict.specs.Decided.{slot_of, place_of, found}
 
 -- an id is listed where its place is one of the list's
 ltb-suc : (m n : ℕ) → ltb (suc m) (suc n) ≡ ltb m n
@@ -56,6 +23,13 @@ ltb-suc m n = go (ltb m n) refl
     go : (b : Bool) → ltb m n ≡ b → ltb (suc m) (suc n) ≡ b
     go true e = let h = ltb-true m n e in lt-ltb (suc m) (suc n) (omega arith)
     go false e = let h = ltb-false m n e in le-ltb (suc m) (suc n) (omega arith)
+
+place-position : (id : ℕ) (ids : List ℕ) → place_of id ids ≡ position_or_len (λ j. eqb j id) ids
+unfolding place_of
+place-position id = is_position_or_len (place_of id) (λ j. eqb j id) refl more
+  where
+    more : (j : ℕ) (ids : List ℕ) → place_of id (j ∷ ids) ≡ cond (eqb j id) 0 (1 + place_of id ids)
+    more j ids = let e : suc (place_of id ids) ≡ 1 + place_of id ids = omega arith in ap (λ (n : ℕ). cond (eqb j id) 0 n) e
 
 listed-placed : (id : ℕ) (ids : List ℕ) → listed id ids ≡ ltb (place_of id ids) (length ids)
 unfolding listed place_of
@@ -66,23 +40,40 @@ listed-placed id (j ∷ ids) = go (eqb j id) (listed-placed id ids)
     go true h = sym (lt-ltb 0 (suc (length ids)) (omega arith))
     go false h = h ∙ sym (ltb-suc (place_of id ids) (length ids))
 
-module _ (id : ℕ) (ids : List ℕ) {place : ℕ} (e : place ≡ place_of id ids) where
-  pub found_none : length ids ≤ place → listed id ids ≡ false
-  found_none h = listed-placed id ids ∙ le-ltb (place_of id ids) (length ids) (omega arith)
+-- the search, as std's words tell it
+pub found-position : (id : ℕ) (ids : List ℕ) → cond (ltb (position_or_len (λ j. eqb j id) ids) (length ids)) (Some (position_or_len (λ j. eqb j id) ids)) None ≡ found id ids
+found-position id ids = rw (sym (place-position id ids), sym (listed-placed id ids))
 
-  pub found_one : place < length ids → listed id ids ≡ true
-  found_one h = listed-placed id ids ∙ lt-ltb (place_of id ids) (length ids) (omega arith)
+-- what it tells of an id
+pub found_none : (id : ℕ) (ids : List ℕ) → found id ids ≡ None → listed id ids ≡ false
+found_none id ids = go (listed id ids)
+  where
+    go : (b : Bool) → cond b (Some (place_of id ids)) None ≡ None → b ≡ false
+    go true e = cc
+    go false e = refl
+
+pub found_some : (id : ℕ) (ids : List ℕ) (p : ℕ) → found id ids ≡ Some p → (listed id ids ≡ true) × (p ≡ place_of id ids)
+found_some id ids p = go (listed id ids)
+  where
+    go : (b : Bool) → cond b (Some (place_of id ids)) None ≡ Some p → (b ≡ true) × (p ≡ place_of id ids)
+    go true e = (refl, cc)
+    go false e = cc
 
 -- ---- a guess
 -- where no id stands twice, the place that has it is the first
-pub guessed : (id : ℕ) (ids : List ℕ) (p : ℕ) → Distinct ids → p < length ids → get_or ids p 0 ≡ id → p ≡ place_of id ids
+guessed : (id : ℕ) (ids : List ℕ) (p : ℕ) → Distinct ids → p < length ids → get_or ids p 0 ≡ id → p ≡ place_of id ids
 unfolding Distinct place_of
 guessed id [] p d h e = absurd (omega arith)
 guessed id (j ∷ ids) zero d h e = rw (eq-eqb j id e)
 guessed id (j ∷ ids) (suc p) d h e =
     rw (ne_eqb j id (λ s. every_at (λ k. k ≡ j → ⊥) ids 0 p d.0 (omega arith) (e ∙ sym s))) (ap suc (guessed id ids p d.1 (omega arith) e))
 
-pub slot_below : (e : Event) → slot_of e < 256
-slot_below (Damaged why) = omega arith
-slot_below (Tick t) = omega arith
-slot_below (Quoted q) = omega arith
+pub guess_found : (id : ℕ) (ids : List ℕ) (p : ℕ) → Distinct ids → p < length ids → get_or ids p 0 ≡ id → Some p ≡ found id ids
+guess_found id ids p d h e =
+    let at : p ≡ place_of id ids = guessed id ids p d h e in
+    rw (listed-placed id ids, sym at, lt-ltb p (length ids) h)
+
+pub slot_below : (e : ReadEvent) → slot_of e < 256
+slot_below (Err why) = omega arith
+slot_below (Ok (Tick t)) = omega arith
+slot_below (Ok (Quoted q)) = omega arith

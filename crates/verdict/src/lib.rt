@@ -5,9 +5,9 @@
 ghost use Rattle.std.specs.Prelude.{◌≡◌};
 ghost use Rattle.method.specs.computed.Event.{in_session, not_crossed, quote_answer};
 ghost use Rattle.method.specs.computed.Sound.{Distinct};
-ghost use Rattle.verdict.specs.Decided.{slot_of, place_of, verdict_of, decided};
+ghost use Rattle.verdict.specs.Decided.{slot_of, place_of, found, verdict_of, decided};
 
-use method::{Event, EventAnswer, EventReason, Price, Quote};
+use method::{Event, EventReason, Price, Quote};
 use numbers::Seconds;
 
 // A quote, and the place of its line in the table, from 0.
@@ -17,23 +17,11 @@ pub struct PlacedQuote {
     pub quote: Quote,
 }
 
-// What an event changes beside the clock: a tick nothing, a quote its line.
-#[derive(Clone, Copy)]
-pub enum Change {
-    Nothing,
-    Quote(PlacedQuote),
-}
-
+// What an event does that is taken: the clock goes to its time, and a quote changes its line.
 #[derive(Clone, Copy)]
 pub struct Taken {
     pub time: Seconds,
-    pub change: Change,
-}
-
-#[derive(Clone, Copy)]
-pub enum Verdict {
-    Refused(EventReason),
-    Taken(Taken),
+    pub change: Option<PlacedQuote>,
 }
 
 // A bid above the ask crosses; where one of them is absent nothing does.
@@ -41,121 +29,88 @@ pub enum Verdict {
 fn not_crossed(bid: Price, ask: Price) -> bool
     ensures { result ≡ not_crossed bid ask }
 {
-    match bid {
-        Price::Absent => true,
-        Price::Given(b) => match ask {
-            Price::Absent => true,
-            Price::Given(a) => b.0 <= a.0,
-        },
+    match (bid, ask) {
+        (Some(b), Some(a)) => b <= a,
+        _ => true,
     }
 }
 
 // A slot for an event's id, so that a caller can keep a guess at the place of each id.
-pub fn slot(e: Event) -> usize
-    ensures { result ≡ slot_of e }
+pub fn slot(said: Result<Event, EventReason>) -> usize
+    ensures { result ≡ slot_of said }
 {
-    match e {
-        Event::Damaged(_) => 0,
-        Event::Tick(_) => 0,
-        Event::Quoted(q) => (q.id % 256) as usize,
+    match said {
+        Ok(Event::Quoted(q)) => (q.id % 256) as usize,
+        _ => 0,
     }
 }
 
-// How many ids stand before this one, or how many there are where it is none of them. A guess that is right spares the search, and one
-// that is wrong costs nothing but time.
-#[tactic(auto, using(crate::proofs::Finding::passed_turn, crate::proofs::Finding::passed_found, crate::proofs::Finding::passed_all, crate::proofs::Finding::guessed))]
-fn place_of(ids: &[u32], guess: u8, id: u32) -> usize
+// The place of an id. A guess that is right spares the search, and one that is wrong costs nothing but time.
+#[tactic(auto, using(crate::proofs::Finding::guess_found))]
+fn place_of(ids: &[u32], guess: u8, id: u32) -> Option<usize>
     requires { Distinct ids.now }
-    ensures { result ≡ place_of id ids.now }
+    ensures { result ≡ found id ids.now }
 {
-    let n = ids.len();
-    let likely = guess as usize;
-    if likely < n {
-        if ids[likely] == id {
-            return likely;
-        }
+    let likely = usize::from(guess);
+    if likely < ids.len() && ids[likely] == id {
+        Some(likely)
+    } else {
+        ids.iter().position(|&other| other == id)
     }
-    let mut i: usize = 0;
-    let place = loop {
-        if i == n {
-            break i;
-        }
-        if ids[i] == id {
-            break i;
-        }
-        i = i + 1;
-    };
-    place
 }
 
-// Refusals 10 and 11; what comes after them is handed over.
+// Refusals 10 and 11.
 #[tactic(auto, unfolding(method::specs::computed::Event::in_session))]
-fn in_session(end: Seconds, clock: Seconds, t: Seconds, onward: EventAnswer) -> EventAnswer
-    ensures { result ≡ in_session end clock t onward }
+fn in_session(end: Seconds, clock: Seconds, t: Seconds) -> Result<(), EventReason>
+    ensures { result ≡ in_session end clock t (Ok tt) }
 {
-    if end.0 < t.0 {
-        return EventAnswer::Refused(EventReason::AfterEnd);
+    if end < t {
+        Err(EventReason::AfterEnd)
+    } else if t < clock {
+        Err(EventReason::BeforeClock)
+    } else {
+        Ok(())
     }
-    if t.0 < clock.0 {
-        return EventAnswer::Refused(EventReason::BeforeClock);
-    }
-    onward
 }
 
-// Refusals 13 and 14, from the place of the quote's id.
-#[tactic(auto, using(crate::proofs::Finding::found_none), unfolding(method::specs::computed::Event::quote_answer))]
-fn quote_answer(ids: &[u32], place: usize, q: Quote) -> EventAnswer
-    requires { place ≡ place_of q.id ids.now }
-    ensures { result ≡ quote_answer ids.now q }
+// Refusals 13 and 14, or the quote with its place.
+#[tactic(auto, using(crate::proofs::Finding::found_none, crate::proofs::Finding::found_some), unfolding(method::specs::computed::Event::quote_answer))]
+fn placed(ids: &[u32], guess: u8, quote: Quote) -> Result<PlacedQuote, EventReason>
+    requires { Distinct ids.now }
+    ensures { result ≡ verdict_of (quote_answer ids.now quote) (record { place = place_of quote.id ids.now; quote = quote }) }
 {
-    if place == ids.len() {
-        return EventAnswer::Refused(EventReason::UnknownId);
-    }
-    let bid = q.bid;
-    let ask = q.ask;
-    if !not_crossed(bid, ask) {
-        return EventAnswer::Refused(EventReason::Crossed);
-    }
-    EventAnswer::Accepted
-}
-
-fn verdict_of(answer: EventAnswer, taken: Taken) -> Verdict
-    ensures { result ≡ verdict_of answer taken }
-{
-    match answer {
-        EventAnswer::Refused(why) => Verdict::Refused(why),
-        EventAnswer::Accepted => Verdict::Taken(taken),
+    let place = place_of(ids, guess, quote.id).ok_or(EventReason::UnknownId)?;
+    if not_crossed(quote.bid, quote.ask) {
+        Ok(PlacedQuote { place, quote })
+    } else {
+        Err(EventReason::Crossed)
     }
 }
 
 // What becomes of an event in a session of these ids, this end and this clock; with a guess at the place of a quote's line.
-#[tactic(auto, unfolding(method::specs::computed::Event::screened))]
-pub fn screen(ids: &[u32], guess: u8, end: Seconds, clock: Seconds, e: Event) -> Verdict
+#[tactic(auto, unfolding(method::specs::computed::Event::screened, method::specs::computed::Event::in_session))]
+pub fn screen(
+    ids: &[u32],
+    guess: u8,
+    end: Seconds,
+    clock: Seconds,
+    said: Result<Event, EventReason>,
+) -> Result<Taken, EventReason>
     requires { Distinct ids.now }
-    ensures { result ≡ decided ids.now end clock e }
+    ensures { result ≡ decided ids.now end clock said }
 {
-    match e {
-        Event::Damaged(why) => Verdict::Refused(why),
-        Event::Tick(t) => verdict_of(
-            in_session(end, clock, t, EventAnswer::Accepted),
-            Taken {
-                time: t,
-                change: Change::Nothing,
-            },
-        ),
-        Event::Quoted(q) => {
-            let place = place_of(ids, guess, q.id);
-            let time = q.time;
-            verdict_of(
-                in_session(end, clock, time, quote_answer(ids, place, q)),
-                Taken {
-                    time: time,
-                    change: Change::Quote(PlacedQuote {
-                        place: place,
-                        quote: q,
-                    }),
-                },
-            )
+    match said? {
+        Event::Tick(time) => {
+            in_session(end, clock, time)?;
+            Ok(Taken { time, change: None })
+        }
+        Event::Quoted(quote) => {
+            in_session(end, clock, quote.time)?;
+            let change = Some(placed(ids, guess, quote)?);
+            Ok(Taken {
+                time: quote.time,
+                change,
+            })
         }
     }
 }
