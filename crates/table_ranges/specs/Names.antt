@@ -2,4 +2,3 @@
 pub use Rattle.method.specs.declared.Key.{Key}
 pub use Rattle.method.specs.declared.Contract.{Contract}
 pub use Rattle.method.specs.declared.Field.{Field}
-pub use Rattle.method.specs.declared.FieldsAnswer.{FieldsAnswer}

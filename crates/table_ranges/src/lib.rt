@@ -2,17 +2,17 @@
 
 #![tactic(auto)]
 
-ghost use Rattle.std.specs.Prelude.{◌≡◌, ◌&&◌, ◌||◌, ◌≤◌, leb, pos, take};
+ghost use Rattle.std.specs.Prelude.{◌≡◌, ◌&&◌, ◌||◌, ◌≤◌, leb, pos, length};
 ghost use Rattle.std.specs.Int.Signed.{le_z};
 ghost use Rattle.numbers.specs.Tests.{in_range, in_span};
 ghost use Rattle.method.specs.words.Layout.{table_length};
 ghost use Rattle.method.specs.words.Ranges.{most_keys, whole, largest_price, permits_negative};
 ghost use Rattle.method.specs.computed.Opening.{field_good, fields_answer};
 ghost use Rattle.method.specs.computed.Table.{bad_key, header_good, laid_out, key_good};
-ghost use Rattle.table_ranges.specs.BadKey.{line_or_zero};
 
-use method::{Contract, Field, FieldsAnswer, Header, Key};
+use method::{Contract, Field, Header, Key};
 use numbers::{Millionths, Steps};
+use std::ops::RangeBounds;
 
 // ---- the header
 
@@ -21,25 +21,20 @@ use numbers::{Millionths, Steps};
 pub fn header_good(h: Header) -> bool
     ensures { result ≡ header_good h }
 {
-    if !numbers::in_range(1, method::MOST_CONTRACTS, h.contracts) {
-        return false;
-    }
-    if !numbers::in_range(1, method::MOST_KEYS, h.keys) {
-        return false;
-    }
-    if !numbers::in_range(1, method::LONGEST_SESSION, h.end.0) {
-        return false;
-    }
-    if !numbers::in_range(1, method::LONGEST_HOLD, h.hold.0) {
-        return false;
-    }
-    if method::MOST_SHIFTS < h.most {
-        return false;
-    }
-    if !numbers::in_range(1, method::LARGEST_NEAR_SHARE, h.near.0) {
-        return false;
-    }
-    numbers::in_range(1, method::WHOLE, h.shift.0)
+    one_to(method::MOST_CONTRACTS, h.contracts)
+        && one_to(method::MOST_KEYS, h.keys)
+        && one_to(method::LONGEST_SESSION, h.end.0)
+        && one_to(method::LONGEST_HOLD, h.hold.0)
+        && h.most <= method::MOST_SHIFTS
+        && one_to(method::LARGEST_NEAR_SHARE, h.near.0)
+        && one_to(method::WHOLE, h.shift.0)
+}
+
+// Most ranges begin at 1.
+fn one_to(most: u32, n: u32) -> bool
+    ensures { result ≡ in_range 1 most n }
+{
+    (1..=most).contains(&n)
 }
 
 // Where the table ends as the counts say. The sums are of 64 bits, and fit whatever the counts are.
@@ -54,13 +49,9 @@ pub fn table_length(h: Header) -> usize
 pub fn laid_out(h: Header, size: usize) -> bool
     ensures { result ≡ laid_out h size }
 {
-    if h.keysat != 40 {
-        return false;
-    }
-    if (h.contractsat as usize) != 40 + 8 * (h.keys as usize) {
-        return false;
-    }
-    size == table_length(h)
+    h.keysat == 40
+        && (h.contractsat as usize) == 40 + 8 * (h.keys as usize)
+        && size == table_length(h)
 }
 
 // ---- the keys
@@ -70,33 +61,22 @@ pub fn laid_out(h: Header, size: usize) -> bool
 fn key_good(before: u32, k: Key) -> bool
     ensures { result ≡ key_good before k }
 {
-    if !numbers::in_range(1, method::MOST_DAYS, k.days) {
-        return false;
-    }
-    if k.days <= before {
-        return false;
-    }
-    k.rate.0 <= method::LARGEST_RATE
+    one_to(method::MOST_DAYS, k.days) && before < k.days && k.rate.0 <= method::LARGEST_RATE
 }
 
-// The line of the first bad key, from 1, or 0 where there is none.
-pub fn first_bad_key(keys: [Key; 16], n: usize) -> u32
-    requires { n ≤ most_keys }
-    ensures { result ≡ line_or_zero (bad_key 1 0 (take n keys)) }
+// The line of the first bad key, from 1.
+pub fn first_bad_key(keys: &[Key]) -> Option<u32>
+    requires { length keys.now ≤ most_keys }
+    ensures { result ≡ bad_key 1 0 keys.now }
 {
-    let mut last: u32 = 0;
-    let mut line: u32 = 1;
-    let mut i: usize = 0;
-    while i < n {
-        let k = keys[i];
-        if !key_good(last, k) {
-            return line;
+    let mut last = 0;
+    for (i, key) in keys.iter().enumerate() {
+        if !key_good(last, *key) {
+            return Some(i as u32 + 1);
         }
-        last = k.days;
-        line = line + 1;
-        i = i + 1;
+        last = key.days;
     }
-    0
+    None
 }
 
 // ---- a contract
@@ -105,27 +85,15 @@ pub fn first_bad_key(keys: [Key; 16], n: usize) -> u32
 fn price_good(flags: u32, price: Steps) -> bool
     ensures { result ≡ (in_span largest_price price.0 && (permits_negative flags || le_z (pos 1) price.0)) }
 {
-    if !numbers::between(
-        Steps(method::LOWEST_PRICE),
-        Steps(method::LARGEST_PRICE),
-        price,
-    ) {
-        return false;
-    }
-    if wire::bit_0(flags) {
-        return true;
-    }
-    1 <= price.0
+    (method::LOWEST_PRICE..=method::LARGEST_PRICE).contains(&price.0)
+        && (wire::bit(0, flags) || 1 <= price.0)
 }
 
 // In its range, and not below the rate before it.
 fn rate_good(before: Millionths, rate: Millionths) -> bool
     ensures { result ≡ (in_range 1 whole rate.0 && leb before.0 rate.0) }
 {
-    if !numbers::in_range(1, method::WHOLE, rate.0) {
-        return false;
-    }
-    before.0 <= rate.0
+    one_to(method::WHOLE, rate.0) && before <= rate
 }
 
 #[tactic(auto, unfolding(method::specs::computed::Opening::field_good))]
@@ -134,13 +102,9 @@ fn field_good(f: Field, c: Contract) -> bool
 {
     match f {
         Field::Price => price_good(c.flags, c.price),
-        Field::Spot => numbers::between(
-            Steps(method::LOWEST_PRICE),
-            Steps(method::LARGEST_PRICE),
-            c.spot,
-        ),
-        Field::Least => numbers::between(Steps(1), Steps(method::LARGEST_PRICE), c.least),
-        Field::Rate1 => numbers::in_range(1, method::WHOLE, c.rate1.0),
+        Field::Spot => (method::LOWEST_PRICE..=method::LARGEST_PRICE).contains(&c.spot.0),
+        Field::Least => (1..=method::LARGEST_PRICE).contains(&c.least.0),
+        Field::Rate1 => one_to(method::WHOLE, c.rate1.0),
         Field::Rate2 => rate_good(c.rate1, c.rate2),
         Field::Rate3 => rate_good(c.rate2, c.rate3),
         Field::Width => c.width.0 <= method::WHOLE,
@@ -163,17 +127,13 @@ const FIELDS: [Field; 9] = [
 ];
 
 // The fields from first to last, up to one that is not in its range (refusal 5).
-pub fn fields(c: Contract) -> FieldsAnswer
+pub fn fields(c: Contract) -> Result<(), Field>
     ensures { result ≡ fields_answer c }
 {
-    let all = FIELDS;
-    let mut i: usize = 0;
-    while i < 9 {
-        let f = all[i];
-        if !field_good(f, c) {
-            return FieldsAnswer::Bad(f);
+    for field in FIELDS {
+        if !field_good(field, c) {
+            return Err(field);
         }
-        i = i + 1;
     }
-    FieldsAnswer::Good
+    Ok(())
 }

@@ -3,11 +3,10 @@
 #![tactic(auto)]
 
 ghost use Rattle.std.specs.Prelude.{◌≡◌, ◌+◌, ◌*◌, ◌≤◌, length};
-ghost use Rattle.numbers.specs.Arrays.{padded};
 ghost use Rattle.method.specs.words.Layout.{header_of, key_at, contract_at, keys_at};
 ghost use Rattle.method.specs.words.Ranges.{most_keys};
-ghost use Rattle.method.specs.computed.Types.{no_key};
 
+use arrayvec::ArrayVec;
 use method::{Contract, Header, Key};
 use numbers::{Millionths, Seconds, Steps};
 
@@ -51,7 +50,7 @@ pub fn contract(bytes: &[u8], at: usize) -> Contract
     Contract {
         price: Steps(wire::signed_word(bytes, at)),
         spot: Steps(wire::signed_word(bytes, at + 4)),
-        least: Steps((wire::word(bytes, at + 8) as u64) as i64),
+        least: Steps(i64::from(wire::word(bytes, at + 8))),
         rate1: Millionths(wire::word(bytes, at + 12)),
         rate2: Millionths(wire::word(bytes, at + 16)),
         rate3: Millionths(wire::word(bytes, at + 20)),
@@ -64,15 +63,13 @@ pub fn contract(bytes: &[u8], at: usize) -> Contract
 
 // ---- the keys
 
-pub fn keys(bytes: &[u8], n: usize) -> [Key; 16]
+pub fn keys(bytes: &[u8], n: usize) -> ArrayVec<Key, 16>
     requires { (n ≤ most_keys) × (40 + 8 * n ≤ length bytes.now) }
-    ensures { result ≡ padded 16 no_key (keys_at bytes.now 40 n) }
+    ensures { result.items ≡ keys_at bytes.now 40 n }
 {
-    let mut keys = [method::NO_KEY; 16];
-    let mut i: usize = 0;
-    while i < n {
-        keys[i] = key(bytes, 40 + 8 * i);
-        i = i + 1;
+    let mut keys = ArrayVec::new();
+    for record in bytes[40..40 + 8 * n].chunks_exact(8) {
+        keys.push(key(record, 0));
     }
     keys
 }
