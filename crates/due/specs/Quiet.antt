@@ -1,15 +1,13 @@
 -- A second before which no hold falls due.
-use Rattle.std.specs.Prelude.{cond, List, [], ◌∷◌, ◌+◌, ltb}
-use Rattle.method.specs.words.Types.{Seconds, seconds}
-use Rattle.method.specs.declared.Hold.{Hold}
-use Rattle.method.specs.declared.Hold.TheVariants.{Idle, Since}
+use Rattle.std.specs.Prelude.{cond, List, [], ◌∷◌, ◌+◌, ltb, None, Some}
+use Rattle.method.specs.words.Types.{Seconds, Hold, seconds}
 use Rattle.method.specs.declared.Holds.{Holds}
 use Rattle.method.specs.declared.Line.{Line}
 
 -- the second q, or the one at which the hold falls due, whichever comes first
 unfoldable pub nearer : Seconds → Seconds → Hold → Seconds
-nearer q wait Idle = q
-nearer q wait (Since start) = cond (ltb (start.0 + wait.0) q.0) (seconds (start.0 + wait.0)) q
+nearer q wait None = q
+nearer q wait (Some start) = cond (ltb (start.0 + wait.0) q.0) (seconds (start.0 + wait.0)) q
 
 abbrev pub until : Seconds → Seconds → Holds → Seconds
 until q wait h = nearer (nearer q wait h.up) wait h.down
