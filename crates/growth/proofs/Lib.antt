@@ -1,4 +1,3 @@
 pub mod Between
 pub mod Summed
 pub mod Search
-pub mod Rates

@@ -1,125 +1,114 @@
--- The search over the keys: what holds while the first i of them are passed, and which rate the found line gives. Assumes nothing.
-use mathlib.Core.Path.{◌≡◌, refl, sym, ap, ◌∙◌}
-use mathlib.Core.Bool.{Bool, true, false, cond}
+-- The search over the keys: they rise, and the number of those that are passed says which rate is sought. Assumes nothing.
+use mathlib.Core.Path.{◌≡◌, refl, sym, ◌∙◌}
 use mathlib.Core.List.{List, [], ◌∷◌}
-use Prim.Native.Nat.{ℕ, zero, suc, ◌+◌, ◌≤◌, ◌<◌}
-use native.Mathlib.Numerals.{add-one}
+use Prim.Native.Nat.{ℕ, zero, suc, ◌-◌, ◌≤◌, ◌<◌}
+use native.Mathlib.Nat.{le_refl}
 use native.Mathlib.Omega.{arith}
-use borrow.Author.Tests.{le-leb, lt-leb, leb-true, leb-false}
-use lib.Dec.{leb}
-use lib.IntN.{ℤ, pos}
-use lib.ListN.{length, get_or, drop}
-use lib.Seq.{drop-cons, drop-length}
-use Rattle.method.specs.words.Ranges.{largest_rate, most_days, KeysIn}
-use Rattle.method.specs.words.Growth.{between_keys, rate_from, rate_by_keys}
-use Rattle.method.specs.computed.Types.{no_key}
+use borrow.Author.Tests.{le-leb, lt-leb}
+use lib.Dec.{ltb}
+use lib.IntN.{pos}
+use lib.ListN.{length, get_or}
+use Rattle.std.specs.List.Sorted.{IsPartitionedBy, IsPartitionPoint}
+use Rattle.std.proofs.lemmas.List.Sorted.{IsPartitionedBy-ltb}
+use Rattle.method.specs.words.Ranges.{KeyIn, KeysIn}
+use Rattle.method.specs.words.Growth.{between_keys, rate_from, rate_by_keys, rate_at}
 use Rattle.growth.specs.Names.{Key}
-use Rattle.growth.specs.Found.{found_line}
+use Rattle.growth.specs.Asks.{Neighbours, Searched}
 
 -- an empty list has no place
 no_place : {n : ℕ} → n < 0 → ⊥
 no_place h = omega arith
 
--- ---- the loop: the line lies as far on as the first i keys, and then as the rest says
-abbrev pub Passed : List Key → ℕ → ℕ → Type 0
-Passed keys days i = found_line days keys ≡ i + found_line days (drop i keys)
-
-module _ (keys : List Key) (days i : ℕ) (p : Passed keys days i) where
-  pub passed_turn : i < length keys → (get_or keys i no_key).days < days → Passed keys days (i + 1)
-  passed_turn h g = rw add-one (omega (arith, p, step))
-    where
-      step : found_line days (drop i keys) ≡ suc (found_line days (drop (suc i) keys))
-      step = unfold found_line in rw (drop-cons keys i no_key h, lt-leb days (get_or keys i no_key).days g)
-
-  pub passed_found : i < length keys → days ≤ (get_or keys i no_key).days → i ≡ found_line days keys
-  passed_found h g = omega (arith, p, stop)
-    where
-      stop : found_line days (drop i keys) ≡ 0
-      stop = unfold found_line in rw (drop-cons keys i no_key h, le-leb days (get_or keys i no_key).days g)
-
-  pub passed_all : i ≡ length keys → i ≡ found_line days keys
-  passed_all e = omega (arith, p, stop)
-    where
-      stop : found_line days (drop i keys) ≡ 0
-      stop = unfold found_line in rw (e, drop-length keys)
-
--- ---- a key is passed, or the search ends at it
-by_key : (days : ℕ) (k : Key) (keys : List Key) (P : ℕ → Type 0) → (days ≤ k.days → P 0) → (k.days < days → P (suc (found_line days keys))) → P (found_line days (k ∷ keys))
-unfolding found_line
-by_key days k keys P f g = go (leb days k.days) refl
-  where
-    go : (t : Bool) → leb days k.days ≡ t → P (cond t 0 (suc (found_line days keys)))
-    go true e = f (leb-true days k.days e)
-    go false e = g (leb-false days k.days e)
-
-pub found_most : (days : ℕ) (keys : List Key) → found_line days keys ≤ length keys
-found_most days [] = unfold found_line in omega arith
-found_most days (k ∷ keys) =
-    let more = found_most days keys in
-    by_key days k keys (λ m. m ≤ suc (length keys)) (λ q. omega arith) (λ q. omega arith)
-
-module _ (days : ℕ) (k : Key) (keys : List Key) where
-  found_here : found_line days (k ∷ keys) ≡ 0 → days ≤ k.days
-  found_here e = by_key days k keys (λ m. m ≡ 0 → days ≤ k.days) (λ q z. q) (λ q z. absurd (never z)) e
-    where
-      never : suc (found_line days keys) ≡ 0 → ⊥
-      never z = omega arith
-
-  found_later : (n : ℕ) → found_line days (k ∷ keys) ≡ suc n → (k.days < days) × (found_line days keys ≡ n)
-  found_later n e = by_key days k keys (λ m. m ≡ suc n → (k.days < days) × (found_line days keys ≡ n)) (λ q z. absurd (never z)) (λ q z. (q, omega arith)) e
-    where
-      never : 0 ≡ suc n → ⊥
-      never z = omega arith
-
--- ---- the rate at the found line: that of the first key, of the last, or between two
-pub record Between (days : ℕ) (l r : Key) (rate : ℤ) : Type 0 where
-  pub rate-is : rate ≡ between_keys l r days
-  pub from : l.days < days
-  pub to : days ≤ r.days
-
-from_last : (l : Key) (keys : List Key) (days : ℕ) → found_line days keys ≡ length keys → rate_from l keys days ≡ pos (get_or (l ∷ keys) (length keys) no_key).rate.0
-unfolding rate_from
-from_last l [] days e = refl
-from_last l (k ∷ keys) days e =
-    let p = found_later days k keys (length keys) e in
-    rw (lt-leb days k.days p.0) (from_last k keys days p.1)
-
-from-between : (l : Key) (keys : List Key) (days n : ℕ) → l.days < days → found_line days keys ≡ n → n < length keys
-    → Between days (get_or (l ∷ keys) n no_key) (get_or keys n no_key) (rate_from l keys days)
-unfolding rate_from
-from-between l [] days n g e h = absurd (no_place h)
-from-between l (k ∷ keys) days zero g e h =
-    let q = found_here days k keys e in
-    record { rate-is = rw (le-leb days k.days q); from = g; to = q }
-from-between l (k ∷ keys) days (suc n) g e h =
-    let p = found_later days k keys n e in
-    rw (lt-leb days k.days p.0) (from-between k keys days n p.0 p.1 (omega arith))
-
-pub first-rate : (keys : List Key) (days : ℕ) → 0 < length keys → found_line days keys ≡ 0 → rate_by_keys keys days ≡ pos (get_or keys 0 no_key).rate.0
-unfolding rate_by_keys
-first-rate [] days h e = absurd (no_place h)
-first-rate (k ∷ keys) days h e = rw (le-leb days k.days (found_here days k keys e))
-
-pub last-rate : (keys : List Key) (days n : ℕ) → found_line days keys ≡ suc n → suc n ≡ length keys → rate_by_keys keys days ≡ pos (get_or keys n no_key).rate.0
-unfolding rate_by_keys
-last-rate [] days n e h = absurd (no_place {n = n} (omega (arith, h)))
-last-rate (k ∷ keys) days n e h =
-    let p = found_later days k keys n e in
-    let last : n ≡ length keys = omega arith in
-    rw (lt-leb days k.days p.0)
-    (from_last k keys days (p.1 ∙ last) ∙ ap (λ (m : ℕ). pos (get_or (k ∷ keys) m no_key).rate.0) (sym last))
-
-pub between-rate : (keys : List Key) (days n : ℕ) → found_line days keys ≡ suc n → suc n < length keys
-    → Between days (get_or keys n no_key) (get_or keys (suc n) no_key) (rate_by_keys keys days)
-unfolding rate_by_keys
-between-rate [] days n e h = absurd (no_place h)
-between-rate (k ∷ keys) days n e h =
-    let p = found_later days k keys n e in
-    rw (lt-leb days k.days p.0) (from-between k keys days n p.0 p.1 (omega arith))
-
--- ---- every key is in its range
-pub key_at : (before : ℕ) (keys : List Key) (i : ℕ) → KeysIn before keys → i < length keys → ((get_or keys i no_key).rate.0 ≤ largest_rate) × ((get_or keys i no_key).days ≤ most_days)
+-- ---- the keys rise, so those with fewer days stand before the others
+key_in : (before : ℕ) (keys : List Key) (i : ℕ) (d : Key) → KeysIn before keys → i < length keys → KeyIn before (get_or keys i d)
 unfolding KeysIn
-key_at before [] i r h = absurd (no_place h)
-key_at before (k ∷ keys) zero r h = (r.0.rate, r.0.days.most)
-key_at before (k ∷ keys) (suc i) r h = key_at k.days keys i r.1 (omega arith)
+key_in before [] i d r h = absurd (no_place h)
+key_in before (k ∷ keys) zero d r h = r.0
+key_in before (k ∷ keys) (suc i) d r h =
+    let later = key_in k.days keys i d r.1 (omega arith) in
+    record { days = later.days; rising = omega (arith, r.0.rising, later.rising); rate = later.rate }
+
+rising : (before : ℕ) (keys : List Key) (i j : ℕ) (d : Key) → KeysIn before keys → i ≤ j → j < length keys → (get_or keys i d).days ≤ (get_or keys j d).days
+unfolding KeysIn
+rising before [] i j d r h g = absurd (no_place g)
+rising before (k ∷ keys) zero zero d r h g = le_refl k.days
+rising before (k ∷ keys) zero (suc j) d r h g = omega (arith, (key_in k.days keys j d r.1 (omega arith)).rising)
+rising before (k ∷ keys) (suc i) zero d r h g = absurd (omega arith)
+rising before (k ∷ keys) (suc i) (suc j) d r h g = rising k.days keys i j d r.1 (omega arith) (omega arith)
+
+pub parted : (keys : List Key) (days : ℕ) → KeysIn 0 keys → IsPartitionedBy (λ (k : Key). ltb k.days days) keys
+parted keys days r = IsPartitionedBy-ltb (λ (k : Key). k.days) keys days (λ i j d h g. rising 0 keys i j d r h g)
+
+-- ---- the rate after the keys that are passed: that of the first key, of the last, or between two
+module _ (days : ℕ) (d : Key) where
+  abbrev Passed : List Key → ℕ → Type 0
+  Passed keys n = (j : ℕ) → j < n → (get_or keys j d).days < days
+
+  from_last : (l : Key) (keys : List Key) → Passed keys (length keys) → rate_from l keys days ≡ pos (get_or (l ∷ keys) (length keys) d).rate.0
+  unfolding rate_from
+  from_last l [] p = refl
+  from_last l (k ∷ keys) p = rw (lt-leb days k.days (p 0 (omega arith))) (from_last k keys (λ j h. p (suc j) (omega arith)))
+
+  from-between : (l : Key) (keys : List Key) (n : ℕ) → Passed keys n → n < length keys → days ≤ (get_or keys n d).days
+      → rate_from l keys days ≡ between_keys (get_or (l ∷ keys) n d) (get_or keys n d) days
+  unfolding rate_from
+  from-between l [] n p h g = absurd (no_place h)
+  from-between l (k ∷ keys) zero p h g = rw (le-leb days k.days g)
+  from-between l (k ∷ keys) (suc n) p h g =
+      rw (lt-leb days k.days (p 0 (omega arith))) (from-between k keys n (λ j q. p (suc j) (omega arith)) (omega arith) g)
+
+  first-rate : (keys : List Key) → 0 < length keys → days ≤ (get_or keys 0 d).days → rate_by_keys keys days ≡ pos (get_or keys 0 d).rate.0
+  unfolding rate_by_keys
+  first-rate [] h g = absurd (no_place h)
+  first-rate (k ∷ keys) h g = rw (le-leb days k.days g)
+
+  last-rate : (keys : List Key) (n : ℕ) → suc n ≡ length keys → Passed keys (suc n) → rate_by_keys keys days ≡ pos (get_or keys n d).rate.0
+  unfolding rate_by_keys
+  last-rate [] n e p = absurd (no_place {n = n} (omega (arith, e)))
+  last-rate (k ∷ keys) n e p =
+      let last : n ≡ length keys = omega arith in
+      rw (lt-leb days k.days (p 0 (omega arith)), last) (from_last k keys (λ j h. p (suc j) (omega arith)))
+
+  between-rate : (keys : List Key) (n : ℕ) → Passed keys (suc n) → suc n < length keys → days ≤ (get_or keys (suc n) d).days
+      → rate_by_keys keys days ≡ between_keys (get_or keys n d) (get_or keys (suc n) d) days
+  unfolding rate_by_keys
+  between-rate [] n p h g = absurd (no_place h)
+  between-rate (k ∷ keys) n p h g = rw (lt-leb days k.days (p 0 (omega arith))) (from-between k keys n (λ j q. p (suc j) (omega arith)) (omega arith) g)
+
+-- ---- the same from where the search ended
+rate_of : (keys : List Key) (days rate : ℕ) → rate_by_keys keys days ≡ pos rate → rate ≡ rate_at keys days
+unfolding rate_at
+rate_of keys days rate e = rw e
+
+module _ {keys : List Key} {days line : ℕ} (d : Key) (s : Searched keys days) (p : IsPartitionPoint (λ (k : Key). k.days < days) (λ (k : Key). days ≤ k.days) keys line) where
+  pub at_first : line ≡ 0 → (get_or keys 0 d).rate.0 ≡ rate_at keys days
+  at_first z = rate_of keys days _ (first-rate days d keys s.some (p.1 0 d (omega (arith, z)) s.some))
+
+  module _ (past : 0 < line) where
+    before : suc (line - 1) ≡ line
+    before = omega arith
+
+    passed : (j : ℕ) → j < suc (line - 1) → (get_or keys j d).days < days
+    passed j h = p.0 j d (omega arith) (omega arith)
+
+    pub at_last : line ≡ length keys → (get_or keys (line - 1) d).rate.0 ≡ rate_at keys days
+    at_last z = rate_of keys days _ (last-rate days d keys (line - 1) (before ∙ z) passed)
+
+    module _ (short : line < length keys) where
+      pub neighbours : Neighbours (get_or keys (line - 1) d) (get_or keys line d) days
+      neighbours =
+          let l = key_in 0 keys (line - 1) d s.good (omega arith) in
+          let r = key_in 0 keys line d s.good short in
+          record {
+            low_rate = l.rate;
+            high_rate = r.rate;
+            from = p.0 (line - 1) d (omega arith) (omega arith);
+            to = p.1 line d (omega arith) short;
+            days_small = s.days_small;
+            last_small = r.days.most;
+          }
+
+      pub at-between : (rate : ℕ) → pos rate ≡ between_keys (get_or keys (line - 1) d) (get_or keys line d) days → rate ≡ rate_at keys days
+      at-between rate e =
+          rate_of keys days rate
+          ((rw before at (between-rate days d keys (line - 1) passed (omega arith) (rw before (neighbours.to)))) ∙ sym e)

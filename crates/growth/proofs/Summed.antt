@@ -5,6 +5,7 @@ use native.Mathlib.Nat.{not-suc-le-zero, div-le_of_le-mul, le_trans, mul-le-mul}
 use native.Mathlib.Numerals.{add-one}
 use native.Mathlib.Omega.{arith}
 use Rattle.method.specs.words.Growth.{most_exponent, term, series, outer_part, up_factor}
+use Rattle.method.specs.computed.Rooms.{largest_factor}
 use Rattle.method.proofs.Growth.{up-between}
 
 -- after the k-th term
@@ -48,5 +49,12 @@ pub with_outer_part : {y sum : ℕ} → 0 < y → sum ≡ series y 12 → sum + 
 unfolding up_factor
 with_outer_part {y} h e = omega (arith, e, outer_above y h)
 
--- no factor is below 1 or too large
-pub ruleset up_range = (up-between)
+pub series_small : (y : ℕ) → y ≤ most_exponent → series y 12 ≤ largest_factor
+unfolding up_factor
+series_small y h = omega (arith, up-between y h)
+
+-- no factor is below 1 or too large, nor is the series
+pub ruleset up_range = (up-between, series_small)
+
+-- above 0 the series and the outer part are the factor
+pub ruleset summed = (with_outer_part, series_small)

@@ -1,7 +1,6 @@
 -- What the functions of this crate ask, and their callers show.
-use Rattle.std.specs.Prelude.{List, ℕ, ◌≤◌, ◌<◌, take}
-use Rattle.numbers.specs.Ranges.{Between}
-use Rattle.method.specs.words.Ranges.{most_keys, largest_rate, most_days, KeysIn}
+use Rattle.std.specs.Prelude.{List, ℕ, ◌≤◌, ◌<◌, length}
+use Rattle.method.specs.words.Ranges.{largest_rate, most_days, KeysIn}
 use Rattle.growth.specs.Names.{Key}
 
 -- two keys with the days left between them
@@ -13,8 +12,8 @@ pub record Neighbours (l r : Key) (days : ℕ) : Type 0 where
   pub days_small : days ≤ most_days
   pub last_small : r.days ≤ most_days
 
--- the first n of 16 keys, checked
-pub record Searched (keys : List Key) (n days : ℕ) : Type 0 where
-  pub count : Between 1 most_keys n
-  pub good : KeysIn 0 (take n keys)
+-- the keys of a table, checked
+pub record Searched (keys : List Key) (days : ℕ) : Type 0 where
+  pub some : 0 < length keys
+  pub good : KeysIn 0 keys
   pub days_small : days ≤ most_days
