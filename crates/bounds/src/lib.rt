@@ -31,9 +31,9 @@ fn factor(side: Side, f: Factors, z: Steps) -> Billionths
     ensures { result.0 ≡ factor side f z.0 }
 {
     match side {
-        Side::Up if z.0 < 0 => f.down,
+        Side::Up if z < Steps(0) => f.down,
         Side::Up => f.up,
-        Side::Down if 0 <= z.0 => f.down,
+        Side::Down if Steps(0) <= z => f.down,
         Side::Down => f.up,
     }
 }

@@ -11,7 +11,7 @@ use numbers::Steps;
 pub fn floored(permitted: bool, k: Limits) -> Limits
     ensures { result ≡ floored permitted k }
 {
-    if !permitted && k.lower.0 < 1 {
+    if !permitted && k.lower < Steps(1) {
         Limits {
             lower: Steps(1),
             frozen: true,
