@@ -1,4 +1,5 @@
 -- The search for the hold that goes first, as a loop over the rows, and what it tells of the hold that it finds. Assumes nothing.
+use Rattle.std.specs.Prelude.{None, Some}
 use mathlib.Core.Path.{◌≡◌, refl, subst, ap}
 use mathlib.Core.Bool.{Bool, true, false, cond}
 use mathlib.Core.List.{List, [], ◌∷◌}
@@ -6,70 +7,63 @@ use Prim.Native.Nat.{ℕ, suc, ◌+◌, ◌≤◌, ◌<◌}
 use native.Mathlib.Numerals.{add-one}
 use native.Mathlib.Omega.{arith}
 use lib.Dec.{ltb, leb}
-use lib.ListN.{length, get_or, take, drop}
+use lib.ListN.{length, get_or, drop, drop_of_length-le}
+use lib.Seq.{drop-cons}
 use borrow.Author.Tests.{ltb-true, leb-false}
-use Rattle.numbers.proofs.Arrays.{passing, all_passed}
 use Rattle.method.specs.words.Types.{State, blank}
 use Rattle.method.specs.words.Ranges.{longest_hold}
 use Rattle.method.specs.computed.Search.{due_of, ahead, sooner, passed, earliest, in_time, next_due}
 use Rattle.method.specs.computed.Rooms.{HoldsIn}
 use Rattle.shifts.proofs.Rooms.{room_passes}
 use Rattle.method.proofs.FirstFound.{nothing-at}
-use Rattle.corridor.specs.Names.{Side, Up, Down, Seconds, Hold, Idle, Since, Holds, Line, Due, Found, Nothing, At}
+use Rattle.corridor.specs.Names.{Side, Up, Down, Seconds, Hold, Holds, Line, Due, Found}
 use Rattle.corridor.specs.declared.Session.{Session}
 use Rattle.corridor.specs.View.{view, Ranged}
-use Rattle.corridor.proofs.Rows.{room_at}
+use Rattle.corridor.proofs.Rows.{room_in}
 
 -- ---- the loop: the rows from i on, with the best so far, give what all rows give
-abbrev pub Passed : Seconds → ℕ → List Line → ℕ → Found → Type 0
-Passed wait n rows i best = earliest wait i (drop i (take n rows)) best ≡ earliest wait 0 (take n rows) Nothing
+abbrev pub Passed : Seconds → List Line → ℕ → Found → Type 0
+Passed wait rows i best = earliest wait i (drop i rows) best ≡ earliest wait 0 rows None
 
 -- what passing a row asks
-pub row_passes : {s : Session} (wait : Seconds) (i : ℕ) → Ranged s → s.hold ≡ wait → i < s.count → HoldsIn (get_or s.lines i blank).holds × (wait.0 ≤ longest_hold)
-row_passes wait i v e h = room_passes (subst (λ (w : Seconds). w.0 ≤ longest_hold) e v.sane.hold.most) (room_at i v h)
+pub row_passes : {s : Session} (i : ℕ) → Ranged s → i < s.count → HoldsIn (get_or (view s).lines i blank).holds × (s.hold.0 ≤ longest_hold)
+row_passes i v h = room_passes v.sane.hold.most (room_in i v h)
 
-pub passed_turn : (wait : Seconds) (n : ℕ) (rows : List Line) (i : ℕ) (best more : Found) → i < n → n ≤ length rows
-    → more ≡ passed wait i (get_or rows i blank).holds best → Passed wait n rows i best → Passed wait n rows (i + 1) more
+pub passed_turn : (wait : Seconds) (rows : List Line) (i : ℕ) (best more : Found) → i < length rows
+    → more ≡ passed wait i (get_or rows i blank).holds best → Passed wait rows i best → Passed wait rows (i + 1) more
 unfolding earliest
-passed_turn wait n rows i best more h g e p = rw (e, add-one) (rw (passing i n rows blank h g) at p)
+passed_turn wait rows i best more h e p = rw (e, add-one) (rw (drop-cons rows i blank h) at p)
 
-pub passed_all : (wait : Seconds) (n : ℕ) (rows : List Line) (i : ℕ) (best : Found) → n ≤ length rows → i ≡ n → Passed wait n rows i best
-    → best ≡ earliest wait 0 (take n rows) Nothing
+-- all rows passed
+pub passed_all : (wait : Seconds) (rows : List Line) (i : ℕ) (best : Found) → length rows ≤ i → Passed wait rows i best
+    → best ≡ earliest wait 0 rows None
 unfolding earliest
-passed_all wait n rows i best g e p = rw (e, all_passed n rows g) at p
-
--- all rows passed: what is in time is the next hold of the method
-pub searched : (s : Session) (t wait end : Seconds) (n i : ℕ) (best d : Found) → s.count ≡ n → s.hold ≡ wait → s.end ≡ end → n ≤ length s.lines
-    → i ≡ n → Passed wait n s.lines i best → d ≡ in_time t end s.left best → next_due t (view s) ≡ d
-unfolding next_due
-searched s t wait end n i best d en ew ee g p q e =
-    let b = passed_all wait n s.lines i best g p q in
-    rw (e, b, en, ew, ee)
+passed_all wait rows i best h p = rw (drop_of_length-le rows h) at p
 
 -- ---- the hold that is found stands at a place of the table
 unfoldable Placed : ℕ → Found → Type 0
-Placed k Nothing = Unit {0}
-Placed k (At x) = x.place < k
+Placed k None = Unit {0}
+Placed k (Some x) = x.place < k
 
 placed-later : (k : ℕ) (d : Found) → Placed k d → Placed (suc k) d
 unfolding Placed
-placed-later k Nothing h = tt
-placed-later k (At x) h = omega arith
+placed-later k None h = tt
+placed-later k (Some x) h = omega arith
 
 placed-sooner : (k : ℕ) (c d : Found) → Placed k c → Placed k d → Placed k (sooner c d)
 unfolding sooner
-placed-sooner k Nothing d h g = g
-placed-sooner k (At y) Nothing h g = h
-placed-sooner k (At y) (At x) h g = either (ahead x y)
+placed-sooner k None d h g = g
+placed-sooner k (Some y) None h g = h
+placed-sooner k (Some y) (Some x) h g = either (ahead x y)
   where
-    either : (b : Bool) → Placed k (cond b (At x) (At y))
+    either : (b : Bool) → Placed k (cond b (Some x) (Some y))
     either true = g
     either false = h
 
 placed-due : (side : Side) (wait : Seconds) (n : ℕ) (h : Hold) → Placed (suc n) (due_of side wait n h)
 unfolding due_of Placed
-placed-due side wait n Idle = tt
-placed-due side wait n (Since b) = omega arith
+placed-due side wait n None = tt
+placed-due side wait n (Some b) = omega arith
 
 placed-passed : (wait : Seconds) (n : ℕ) (h : Holds) (best : Found) → Placed n best → Placed (suc n) (passed wait n h best)
 unfolding passed
@@ -89,22 +83,22 @@ pub record Next (t : Seconds) (s : State) (x : Due) : Type 0 where
   pub before_end : x.second.0 < s.end.0
   pub left : 0 < s.left
 
-nothing : {A : Type 0} {x : Due} → Nothing ≡ At x → A
+nothing : {A : Type 0} {x : Due} → None ≡ Some x → A
 nothing e = absurd (nothing-at e)
 
-at-is : {x y : Due} → At x ≡ At y → x ≡ y
+at-is : {x y : Due} → Some x ≡ Some y → x ≡ y
 at-is {x} e = ap due e
   where
     due : Found → Due
-    due Nothing = x
-    due (At z) = z
+    due None = x
+    due (Some z) = z
 
-next_found : (t : Seconds) (s : State) (d : Found) (x : Due) → Placed (length s.lines) d → in_time t s.end s.left d ≡ At x → Next t s x
+next_found : (t : Seconds) (s : State) (d : Found) (x : Due) → Placed (length s.lines) d → in_time t s.end s.left d ≡ Some x → Next t s x
 unfolding in_time
-next_found t s Nothing x p e = nothing e
-next_found t s (At y) x p e = go (ltb t.0 y.second.0) (leb s.end.0 y.second.0) (ltb 0 s.left) refl refl e
+next_found t s None x p e = nothing e
+next_found t s (Some y) x p e = go (ltb t.0 y.second.0) (leb s.end.0 y.second.0) (ltb 0 s.left) refl refl e
   where
-    go : (a b c : Bool) → leb s.end.0 y.second.0 ≡ b → ltb 0 s.left ≡ c → cond a Nothing (cond b Nothing (cond c (At y) Nothing)) ≡ At x
+    go : (a b c : Bool) → leb s.end.0 y.second.0 ≡ b → ltb 0 s.left ≡ c → cond a None (cond b None (cond c (Some y) None)) ≡ Some x
         → Next t s x
     go true b c eb ec e = nothing e
     go false true c eb ec e = nothing e
@@ -112,8 +106,8 @@ next_found t s (At y) x p e = go (ltb t.0 y.second.0) (leb s.end.0 y.second.0) (
     go false false true eb ec e =
         subst (Next t s) (at-is e) (record { place = unfold Placed in p; before_end = leb-false _ _ eb; left = ltb-true _ _ ec })
 
-pub next-is : (t : Seconds) (s : State) (x : Due) → next_due t s ≡ At x → Next t s x
+pub next-is : (t : Seconds) (s : State) (x : Due) → next_due t s ≡ Some x → Next t s x
 unfolding next_due
 next-is t s x e =
-    next_found t s (earliest s.hold 0 s.lines Nothing) x
-    (subst (λ (k : ℕ). Placed k (earliest s.hold 0 s.lines Nothing)) (omega arith) (placed-earliest s.hold 0 s.lines Nothing (unfold Placed in tt))) e
+    next_found t s (earliest s.hold 0 s.lines None) x
+    (subst (λ (k : ℕ). Placed k (earliest s.hold 0 s.lines None)) (omega arith) (placed-earliest s.hold 0 s.lines None (unfold Placed in tt))) e

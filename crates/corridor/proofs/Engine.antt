@@ -2,7 +2,6 @@
 use mathlib.Core.Path.{◌≡◌, refl, sym, ap, ◌∙◌}
 use mathlib.Core.List.{List, [], ◌∷◌}
 use Prim.Native.Nat.{ℕ}
-use Rattle.numbers.proofs.Arrays.{padded-take}
 use Rattle.method.specs.words.Types.{State}
 use Rattle.method.specs.words.Sessions.{Answer, accepted, refused}
 use Rattle.method.specs.computed.Event.{read, next}
@@ -11,26 +10,26 @@ use Rattle.method.proofs.TableAnswered.{answered_table}
 use Rattle.method.proofs.OneSession.{run_in_words}
 use Rattle.corridor.specs.declared.Session.{Session}
 use Rattle.corridor.specs.View.{view, put, no_session, opened_session, Valid}
-use Rattle.corridor.specs.Reply.{no_shift, reply_of}
-use Rattle.corridor.specs.Engine.{reply_to, answer_in, one_by_one, left_after, OpensAs, ValidProper, EngineRuns, EngineIsRight}
+use Rattle.corridor.specs.Reply.{shifts_told, left_of}
+use Rattle.corridor.specs.Engine.{session_after, answer_in, one_by_one, left_after, OpensAs, ValidProper, EngineRuns, EngineIsRight}
 use Rattle.corridor.proofs.Views.{view-put, put-put, put_view}
 use Rattle.corridor.proofs.Theorems.{valid-event}
 use Rattle.corridor.proofs.Events.{finally-kept}
 
--- ---- one reply
-module _ (s : Session) (b : List ℕ) where
-  answer-is : (a : Answer) → answer_in (reply_of s (read b) a) ≡ a
-  unfolding reply_of
-  answer-is (accepted cs) = ap accepted (padded-take 16 no_shift cs)
-  answer-is (refused why) = refl
+-- ---- one answer
+answer-is : (a : Answer) → answer_in (shifts_told a) ≡ a
+unfolding shifts_told
+answer-is (accepted cs) = refl
+answer-is (refused why) = refl
 
-  view-is : (a : Answer) → view (reply_of s (read b) a).session ≡ next (view s) (read b) a
-  unfolding reply_of next
+module _ (s : Session) (b : List ℕ) where
+  view-is : (a : Answer) → view (left_of s (read b) a) ≡ next (view s) (read b) a
+  unfolding left_of next
   view-is (accepted cs) = view-put s (next (view s) (read b) (accepted cs))
   view-is (refused why) = refl
 
-  put_is : (a : Answer) → Valid s → (reply_of s (read b) a).session ≡ put s (next (view s) (read b) a)
-  unfolding reply_of next
+  put_is : (a : Answer) → Valid s → left_of s (read b) a ≡ put s (next (view s) (read b) a)
+  unfolding left_of next
   put_is (accepted cs) v = refl
   put_is (refused why) v = sym (put_view v)
 
@@ -40,14 +39,14 @@ unfolding one_by_one run
 answers_are s [] = refl
 answers_are s (b ∷ bs) =
     let a : Answer = answer (view s) (read b) in
-    let first = answer-is s b a in
-    let rest = answers_are (reply_to s b).session bs ∙ ap (λ (x : State). run x bs) (view-is s b a) in
+    let first = answer-is a in
+    let rest = answers_are (session_after s b) bs ∙ ap (λ (x : State). run x bs) (view-is s b a) in
     cc
 
 view-left : (s : Session) (bs : List (List ℕ)) → view (left_after s bs) ≡ finally (view s) bs
 unfolding left_after finally
 view-left s [] = refl
-view-left s (b ∷ bs) = view-left (reply_to s b).session bs ∙ ap (λ (x : State). finally x bs) (view-is s b (answer (view s) (read b)))
+view-left s (b ∷ bs) = view-left (session_after s b) bs ∙ ap (λ (x : State). finally x bs) (view-is s b (answer (view s) (read b)))
 
 session-left : (s : Session) (bs : List (List ℕ)) → Valid s → left_after s bs ≡ put s (finally (view s) bs)
 unfolding left_after finally
@@ -55,18 +54,19 @@ session-left s [] v = sym (put_view v)
 session-left s (b ∷ bs) v =
     let a : Answer = answer (view s) (read b) in
     let x : State = next (view s) (read b) a in
-    session-left (reply_to s b).session bs (valid-event s b v)
-    ∙ ap (λ (y : State). put (reply_to s b).session (finally y bs)) (view-is s b a)
+    session-left (session_after s b) bs (valid-event s b v)
+    ∙ ap (λ (y : State). put (session_after s b) (finally y bs)) (view-is s b a)
     ∙ ap (λ (z : Session). put z (finally x bs)) (put_is s b a v) ∙ put-put s x (finally x bs) (finally-kept x bs)
 
 left-valid : (s : Session) (bs : List (List ℕ)) → Valid s → Valid (left_after s bs)
 unfolding left_after
 left-valid s [] v = v
-left-valid s (b ∷ bs) v = left-valid (reply_to s b).session bs (valid-event s b v)
+left-valid s (b ∷ bs) v = left-valid (session_after s b) bs (valid-event s b v)
 
 -- ---- the engine
 pub opens_as : OpensAs
-opens_as table o a = ap (λ z. view (opened_session z).session) (answered_table table a) ∙ (unfold opened_session in view-put no_session o)
+unfolding opened_session
+opens_as table o a = rw (answered_table table a) (view-put no_session o)
 
 pub valid_proper : ValidProper
 valid_proper s v = record { sane = v.sane; sound = v.sound; distinct = v.distinct }

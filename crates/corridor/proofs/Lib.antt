@@ -1,11 +1,10 @@
-pub mod Opening
 pub mod Views
 pub mod Rows
 pub mod Shifting
 pub mod Due
 pub mod DueServed
 pub mod Named
-pub mod Gathered
+pub mod Ids
 pub mod Saying
 pub mod Events
 pub mod Theorems

@@ -1,9 +1,9 @@
--- A loop that changes each of the first rows of an array, and a row that is read by its place. Assumes nothing.
+-- A loop that changes each row, and a row that is read by its place. Assumes nothing.
 use mathlib.Core.Path.{◌≡◌, refl, ap, subst}
-use mathlib.Core.List.{List, [], ◌∷◌, ◌++◌, map}
-use Prim.Native.Nat.{ℕ, zero, suc, ◌<◌}
+use mathlib.Core.List.{List, [], ◌∷◌, map}
+use Prim.Native.Nat.{ℕ, zero, suc, ◌<◌, ◌≤◌}
 use native.Mathlib.Omega.{arith}
-use lib.ListN.{length, get_or, set, take, drop}
+use lib.ListN.{length, get_or, set, take}
 use lib.Seq.{length-take-le, get_or-take}
 use Rattle.method.specs.words.Types.{blank}
 use Rattle.method.specs.computed.Head.{most_left}
@@ -33,16 +33,25 @@ module _ {A : Type 0} (f : A → A) where
   changed_next (suc k) [] d h = refl
   changed_next (suc k) (x ∷ xs) d h = ap (λ (l : List A). f x ∷ l) (changed_next k xs d (omega arith))
 
-  -- at the end: the method's map, written over the first places
-  pub changed_view : (n : ℕ) (xs : List A) → changed f n xs ≡ map f (take n xs) ++ drop n xs
+  pub changed-length : (k : ℕ) (xs : List A) → length (changed f k xs) ≡ length xs
   unfolding changed
-  changed_view zero xs = refl
-  changed_view (suc n) [] = refl
-  changed_view (suc n) (x ∷ xs) = ap (λ (l : List A). f x ∷ l) (changed_view n xs)
+  changed-length zero xs = refl
+  changed-length (suc k) [] = refl
+  changed-length (suc k) (x ∷ xs) = ap suc (changed-length k xs)
+
+  -- at the end
+  pub changed_all : (k : ℕ) (xs : List A) → length xs ≤ k → changed f k xs ≡ map f xs
+  unfolding changed
+  changed_all zero [] h = refl
+  changed_all zero (x ∷ xs) h = absurd (omega arith)
+  changed_all (suc k) [] h = refl
+  changed_all (suc k) (x ∷ xs) h = ap (λ (l : List A). f x ∷ l) (changed_all k xs (omega arith))
 
 -- ---- a row of a session
+pub room_in : {s : Session} (i : ℕ) → Ranged s → i < s.count → Room (most_left (view s)) (get_or (view s).lines i blank)
+room_in {s} i v h =
+    every_at (Room (most_left (view s))) (take s.count s.lines) blank i v.sane.rooms
+    (omega (arith, length-take-le s.count s.lines (omega (arith, v.full, v.few))))
+
 pub room_at : {s : Session} (i : ℕ) → Ranged s → i < s.count → Room (most_left (view s)) (get_or s.lines i blank)
-room_at {s} i v h =
-    let long = length-take-le s.count s.lines (omega (arith, v.full, v.few)) in
-    subst (Room (most_left (view s))) (get_or-take s.count s.lines i blank h)
-    (every_at (Room (most_left (view s))) (take s.count s.lines) blank i v.sane.rooms (omega (arith, long)))
+room_at {s} i v h = subst (Room (most_left (view s))) (get_or-take s.count s.lines i blank h) (room_in i v h)

@@ -4,7 +4,7 @@ use mathlib.Core.List.{List, [], ◌∷◌, ◌++◌, map}
 use Prim.Native.Nat.{ℕ, ◌+◌, ◌-◌, ◌≤◌, ◌<◌}
 use native.Mathlib.Numerals.{add-one}
 use native.Mathlib.Omega.{arith}
-use lib.ListN.{length, get_or, take, drop, length-map}
+use lib.ListN.{length, get_or, set, drop, length-map}
 use Rattle.method.specs.words.Types.{State, blank}
 use Rattle.method.specs.words.Ranges.{longest_session}
 use Rattle.method.specs.computed.Head.{with_lines}
@@ -12,26 +12,25 @@ use Rattle.method.specs.computed.Shift.{shift_line, shifted, onward, after}
 use Rattle.method.proofs.Sane.{sane-shifted}
 use Rattle.corridor.specs.Names.{Side, Seconds, Line, ShiftLine}
 use Rattle.corridor.specs.declared.Session.{Session}
-use Rattle.corridor.specs.View.{view, with_head, put, moved_on, with_line, Ranged}
-use Rattle.corridor.proofs.Rows.{changed, changed_at, changed_next, changed_view}
+use Rattle.corridor.specs.View.{view, with_head, put, Ranged}
+use Rattle.corridor.proofs.Rows.{changed, changed_at, changed_next, changed-length, changed_all}
 use Rattle.corridor.proofs.Views.{ranged_length, ranged_put}
 
 -- a turn of the loop: one more row is changed
-pub change_turn : (f : Line → Line) (s₀ s : Session) (i : ℕ) (m : Line) → s ≡ moved_on s₀ (changed f i s₀.lines) s₀.clock → i < length s₀.lines
-    → m ≡ f (get_or s.lines i blank) → with_line s i m ≡ moved_on s₀ (changed f (i + 1) s₀.lines) s₀.clock
-change_turn f s₀ s i m e h em = rw (em, e, add-one, changed_at, changed_next f i s₀.lines blank h)
+pub change_turn : (f : Line → Line) (rows rows' : List Line) (i : ℕ) (m : Line) → rows' ≡ changed f i rows → i < length rows'
+    → m ≡ f (get_or rows' i blank) → set rows' i m ≡ changed f (i + 1) rows
+change_turn f rows rows' i m e h em = rw (em, e, add-one, changed_at) (changed_next f i rows blank (rw (e, changed-length) at h))
 
-abbrev shifted-rows : Session → ℕ → List Line → Session
-shifted-rows s n ls = with_head (with_lines (view s) ls (s.left - 1) s.clock) n ls
-
-pub all_shifted : (side : Side) (now : Seconds) (s : Session) → Ranged s
-    → shifted-rows s s.count (changed (shift_line s.near (s.left - 1) side now) s.count s.lines) ≡ put s (shifted side now (view s))
+-- after it, the rows in use and those past them are the shifted session's
+pub all_shifted : (side : Side) (now : Seconds) (s : Session) → Ranged s → (i : ℕ) (rows : List Line) → length rows ≤ i
+    → rows ≡ changed (shift_line s.near (s.left - 1) side now) i (view s).lines
+    → with_head (with_lines (view s) rows (s.left - 1) s.clock) s.count (rows ++ drop s.count s.lines) ≡ put s (shifted side now (view s))
 unfolding shifted
-all_shifted side now s v =
+all_shifted side now s v i rows h e =
     let f = shift_line s.near (s.left - 1) side now in
-    let new = map f (take s.count s.lines) in
-    let size : length new ≡ s.count = length-map (take s.count s.lines) f ∙ ranged_length v in
-    ap (shifted-rows s s.count) (changed_view f s.count s.lines) ∙ ap (λ (n : ℕ). shifted-rows s n (new ++ drop n s.lines)) (sym size)
+    let new : rows ≡ map f (view s).lines = e ∙ changed_all f i (view s).lines (rw (e, changed-length f i (view s).lines) at h) in
+    let size : s.count ≡ length (map f (view s).lines) = sym (length-map (view s).lines f ∙ ranged_length v) in
+    rw new (ap (λ (n : ℕ). with_head (with_lines (view s) (map f (view s).lines) (s.left - 1) s.clock) n (map f (view s).lines ++ drop n s.lines)) size)
 
 -- ---- shifts change no number of lines
 pub shifted-length : (side : Side) (now : Seconds) (s : State) → length (shifted side now s).lines ≡ length s.lines

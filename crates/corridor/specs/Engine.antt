@@ -1,39 +1,43 @@
 -- The engine as a host sees it: a session that is opened or taken from a snapshot, and handed from event to event. Rules 2 and 3 speak of the
 -- answers that the method's words admit and of the state that these leave; the engine's answers are these, and its session shows that state.
 -- The name in brackets is the theorem, in proofs/Engine.
-use Rattle.std.specs.Prelude.{◌≡◌, List, [], ◌∷◌, ℕ, take}
+use Rattle.std.specs.Prelude.{◌≡◌, List, [], ◌∷◌, ℕ, Result, Ok, Err, IsOkAnd}
 use Rattle.method.specs.words.Types.{State}
 use Rattle.method.specs.words.Tables.{opened, TableAnswered}
-use Rattle.method.specs.words.Sessions.{Answer, AnswersInWords}
+use Rattle.method.specs.words.Sessions.{Answer, accepted, refused, AnswersInWords}
 use Rattle.method.specs.computed.Table.{opening}
 use Rattle.method.specs.computed.Event.{read}
-use Rattle.method.specs.computed.Search.{as_answer, answer, run, finally}
+use Rattle.method.specs.computed.Search.{answer, run, finally}
 use Rattle.method.specs.computed.Sound.{Proper}
+use Rattle.corridor.specs.Names.{EventReason}
 use Rattle.corridor.specs.declared.Session.{Session}
-use Rattle.corridor.specs.declared.Reply.{Reply}
 use Rattle.corridor.specs.View.{view, put, opened_session, Valid}
-use Rattle.corridor.specs.Reply.{reply_of}
+use Rattle.corridor.specs.Reply.{Shifts, shifts_told, left_of}
 
--- what `event` promises of a session and a byte string
-abbrev pub reply_to : Session → List ℕ → Reply
-reply_to s b = reply_of s (read b) (answer (view s) (read b))
+-- what `event` promises of a session and a byte string: the answer, and the session that is left
+abbrev pub reply_to : Session → List ℕ → Result Shifts EventReason
+reply_to s b = shifts_told (answer (view s) (read b))
 
--- a reply's answer with its shift lines, as the method has it
-abbrev pub answer_in : Reply → Answer
-answer_in r = as_answer r.answer (take r.made r.shifts)
+abbrev pub session_after : Session → List ℕ → Session
+session_after s b = left_of s (read b) (answer (view s) (read b))
+
+-- an answer with its shift lines, as the method has it
+abbrev pub answer_in : Result Shifts EventReason → Answer
+answer_in (Ok cs) = accepted cs.items
+answer_in (Err why) = refused why
 
 -- each byte string is handed to the session that the one before it left
 unfoldable pub one_by_one : Session → List (List ℕ) → List Answer
 one_by_one s [] = []
-one_by_one s (b ∷ bs) = answer_in (reply_to s b) ∷ one_by_one (reply_to s b).session bs
+one_by_one s (b ∷ bs) = answer_in (reply_to s b) ∷ one_by_one (session_after s b) bs
 
 unfoldable pub left_after : Session → List (List ℕ) → Session
 left_after s [] = s
-left_after s (b ∷ bs) = left_after (reply_to s b).session bs
+left_after s (b ∷ bs) = left_after (session_after s b) bs
 
 -- The session of an accepted table shows the state in which the method opens it. [opens_as]
 abbrev pub OpensAs : Type 0
-OpensAs = (table : List ℕ) (o : State) → TableAnswered table (opened o) → view (opened_session (opening table)).session ≡ o
+OpensAs = (table : List ℕ) (o : State) → TableAnswered table (opened o) → IsOkAnd (opened_session (opening table)) (λ s. view s ≡ o)
 
 -- A valid session, wherever it comes from, shows a proper state, so that rule 2 holds of it (`rule2_kept`). [valid_proper]
 abbrev pub ValidProper : Type 0

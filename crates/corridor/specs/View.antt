@@ -1,16 +1,14 @@
 -- A session is an array of 32 rows with a count; the method speaks of a list of exactly the table's lines. `view` reads the one as the
 -- other, `put` writes a state back, and the contracts of this crate are equations through them.
-use Rattle.std.specs.Prelude.{◌≡◌, List, ◌++◌, ℕ, ◌≤◌, length, set, take, drop, replicate}
-use Rattle.method.specs.words.Types.{State, blank, session_ids}
+use Rattle.std.specs.Prelude.{◌≡◌, List, ◌++◌, ℕ, ◌≤◌, length, set, take, drop, replicate, Result, Ok, Err}
+use Rattle.method.specs.words.Types.{State, blank, seconds, millionths, session_ids}
 use Rattle.method.specs.words.Ranges.{most_contracts}
 use Rattle.method.specs.words.Tables.{Opening, opened, refused}
 use Rattle.method.specs.computed.Head.{with_lines}
 use Rattle.method.specs.computed.Rooms.{Sane}
 use Rattle.method.specs.computed.Sound.{Sound, Distinct}
-use Rattle.table.specs.TableReply.{no_state}
-use Rattle.corridor.specs.Names.{Seconds, Line, TableAnswer}
+use Rattle.corridor.specs.Names.{Seconds, Line, TableRefusal}
 use Rattle.corridor.specs.declared.Session.{Session}
-use Rattle.corridor.specs.declared.OpenReply.{OpenReply}
 
 -- ---- the head, all that stands beside the lines, is written out in `view` and `with_head`, and nowhere else in this crate's definitions
 -- the first `count` rows, as the method's lines
@@ -34,13 +32,27 @@ abbrev pub with_line : Session → ℕ → Line → Session
 with_line s place l = moved_on s (set s.lines place l) s.clock
 
 -- ---- what a table opens
--- Beside a refusal stand no lines, and every number is 0. No session has hold seconds 0, so that this is not `Valid`.
+-- no lines, and every number 0; no session has hold seconds 0, so that this is not `Valid`
 abbrev pub no_session : Session
-no_session = with_head no_state 0 (replicate 32 blank)
+no_session =
+    record {
+      lines = replicate 32 blank;
+      count = 0;
+      clock = seconds 0;
+      end = seconds 0;
+      hold = seconds 0;
+      left = 0;
+      near = millionths 0;
+    }
 
-unfoldable pub opened_session : Opening → OpenReply
-opened_session (opened x) = record { answer = TableAnswer.Opened; session = put no_session x }
-opened_session (refused why line) = record { answer = TableAnswer.Refused why line; session = no_session }
+unfoldable pub opened_session : Opening → Result Session TableRefusal
+opened_session (opened x) = Ok (put no_session x)
+opened_session (refused why line) = Err (record { reason = why; line = line })
+
+-- what memory holds in which a table was to be opened: the session, or none
+unfoldable pub left_by_open : Opening → Session
+left_by_open (opened x) = put no_session x
+left_by_open (refused why line) = no_session
 
 -- The array's length and the ranges of a session's numbers: what one shift asks, and keeps.
 pub record Ranged (s : Session) : Type 0 where

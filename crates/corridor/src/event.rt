@@ -1,86 +1,58 @@
 // One event: refused, or the due holds served and then the tick or the quote applied.
 
-ghost use Rattle.std.specs.Prelude.{◌≡◌, length, take};
+ghost use Rattle.std.specs.Prelude.{◌≡◌};
 ghost use Rattle.method.specs.words.Types.{session_ids};
 ghost use Rattle.method.specs.computed.Event.{read};
 ghost use Rattle.method.specs.computed.Search.{answer};
 ghost use Rattle.corridor.specs.View.{view, Valid};
 ghost use Rattle.corridor.specs.Applied.{applied_to, Applies};
-ghost use Rattle.corridor.specs.Reply.{reply_of};
+ghost use Rattle.corridor.specs.Reply.{shifts_told, left_of};
 
-use crate::{Reply, Session};
-use method::EventAnswer;
-use verdict::{Change, Taken, Verdict};
+use crate::{Session, Shifts};
+use arrayvec::ArrayVec;
+use method::EventReason;
+use verdict::Taken;
 
 impl Session {
     // The ids of the lines in their order, which is all that the screen asks of a session.
-    pub fn ids(self) -> [u32; 32]
-        requires { Valid self }
-        ensures { (length result ≡ 32) × (take self.count result ≡ session_ids (view self)) }
+    pub fn ids(&self) -> ArrayVec<u32, 32>
+        requires { Valid self.now }
+        ensures { result.items ≡ session_ids (view self.now) }
     {
-        let n = self.count;
-        let mut got: [u32; 32] = [0; 32];
-        for i in 0..n {
-            got[i] = self.lines[i].terms.id;
+        let mut got = ArrayVec::new();
+        for line in &self.lines[..self.count] {
+            got.push(line.terms.id);
         }
         got
     }
 
     // A quote is put on its line, a tick changes none, and the clock is set.
-    fn applied(mut self, v: Taken) -> Session
-        requires { Applies self v.change }
-        ensures { result ≡ applied_to self v }
+    fn applied(&mut self, v: Taken)
+        requires { Applies self.old v.change }
+        ensures { self.new ≡ applied_to self.old v }
     {
-        let t = v.time;
-        self.clock = t;
-        let change = v.change;
-        match change {
-            Change::Nothing => {
-                return self;
-            }
-            Change::Quote(p) => {
-                let near = self.near;
-                let q = p.quote;
-                let place = p.place;
-                let m = shifts::quoted_line(near, self.left, q, self.lines[place]);
-                self.lines[place] = m;
-                return self;
-            }
+        self.clock = v.time;
+        if let Some(p) = v.change {
+            self.lines[p.place] = shifts::quoted_line(
+                self.near,
+                self.left,
+                p.quote,
+                self.lines[p.place],
+            );
         }
     }
 
     // Holds that are due by an event's time are served before it is applied, so a quote meets the lines as the shifts leave them. A refused
-    // event hands back the session as it was given.
-    pub fn event(mut self, bytes: &[u8]) -> Reply
-        requires { Valid self }
-        ensures { result ≡ reply_of self (read bytes.now) (answer (view self) (read bytes.now)) }
+    // event leaves the session as it was.
+    pub fn event(&mut self, bytes: &[u8]) -> Result<Shifts, EventReason>
+        requires { Valid self.old }
+        ensures answer { result ≡ shifts_told (answer (view self.old) (read bytes.now)) }
+        ensures left { self.new ≡ left_of self.old (read bytes.now) (answer (view self.old) (read bytes.now)) }
     {
-        let n = self.count;
-        let end = self.end;
-        let clock = self.clock;
-        let e = events::read(bytes);
         let ids = self.ids();
-        match verdict::screen(&ids[..n], 0, end, clock, e) {
-            Verdict::Refused(why) => {
-                return Reply {
-                    answer: EventAnswer::Refused(why),
-                    shifts: [crate::NO_SHIFT; 16],
-                    made: 0,
-                    session: self,
-                };
-            }
-            Verdict::Taken(v) => {
-                let t = v.time;
-                let r = self.served(t);
-                let shifts = r.shifts;
-                self = r.session;
-                return Reply {
-                    answer: EventAnswer::Accepted,
-                    shifts: shifts,
-                    made: r.made,
-                    session: self.applied(v),
-                };
-            }
-        }
+        let taken = verdict::screen(&ids, 0, self.end, self.clock, events::read(bytes))?;
+        let shifts = self.served(taken.time);
+        self.applied(taken);
+        Ok(shifts)
     }
 }

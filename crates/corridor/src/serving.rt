@@ -2,72 +2,55 @@
 
 ghost use Rattle.std.specs.Prelude.{◌≡◌, ◌<◌};
 ghost use Rattle.method.specs.computed.Shift.{shifted};
-ghost use Rattle.method.specs.computed.Search.{served_by};
+ghost use Rattle.method.specs.computed.Search.{next_due, served_by};
 ghost use Rattle.corridor.specs.View.{view, put, Ranged, Valid};
 ghost use Rattle.corridor.specs.Reply.{served_as};
 
-use crate::{Served, Session};
-use method::{Found, ShiftLine, Side};
+use crate::{Session, Shifts};
+use method::{Due, ShiftLine, Side};
 use numbers::Seconds;
 
 impl Session {
     // One shift: every line of the table moves and is judged anew, not only the one that called.
-    fn shifted(mut self, side: Side, now: Seconds) -> Session
-        requires { Ranged self × (0 < self.left) }
-        ensures { result ≡ put self (shifted side now (view self)) }
+    fn shifted(&mut self, side: Side, now: Seconds)
+        requires { Ranged self.old × (0 < self.old.left) }
+        ensures { self.new ≡ put self.old (shifted side now (view self.old)) }
     {
-        let n = self.count;
         let near = self.near;
         let left = self.left - 1;
-        for place in 0..n {
-            let m = shifts::shift_line(near, left, side, now, self.lines[place]);
-            self.lines[place] = m;
-        }
         self.left = left;
-        self
+        for line in &mut self.lines[..self.count] {
+            *line = shifts::shift_line(near, left, side, now, *line);
+        }
+    }
+
+    // The hold that goes first, where it is due at or before t.
+    fn next_due(&self, t: Seconds) -> Option<Due>
+        requires { Ranged self.now }
+        ensures { result ≡ next_due t (view self.now) }
+    {
+        let mut best = None;
+        for (place, line) in self.lines[..self.count].iter().enumerate() {
+            best = due::passed(self.hold, place, line.holds, best);
+        }
+        due::in_time(t, self.end, self.left, best)
     }
 
     // Every hold that is due at or before t is served. A shift ends holds and starts others, so the search starts anew after each.
-    pub fn served(mut self, t: Seconds) -> Served
-        requires { Valid self }
-        ensures { result ≡ served_as self (served_by t (view self)) }
+    pub fn served(&mut self, t: Seconds) -> Shifts
+        requires { Valid self.old }
+        ensures told { result.items ≡ served_by t (view self.old) }
+        ensures left { self.new ≡ served_as self.old (served_by t (view self.old)) }
     {
-        let n = self.count;
-        let wait = self.hold;
-        let end = self.end;
-        let mut shifts = [crate::NO_SHIFT; 16];
-        let mut made: usize = 0;
-        'serving: loop {
-            let mut best = Found::Nothing;
-            let mut i: usize = 0;
-            let call = loop {
-                if i == n {
-                    match due::in_time(t, end, self.left, best) {
-                        Found::Nothing => break 'serving,
-                        Found::At(c) => break c,
-                    }
-                }
-                let l = self.lines[i];
-                let h = l.holds;
-                best = due::passed(wait, i, h, best);
-                i = i + 1;
-            };
-            let place = call.place;
-            let id = self.lines[place].terms.id;
-            let side = call.side;
-            let second = call.second;
-            shifts[made] = ShiftLine {
-                second: second,
-                side: side,
-                id: id,
-            };
-            made = made + 1;
-            self = self.shifted(side, second);
+        let mut made = Shifts::new();
+        while let Some(call) = self.next_due(t) {
+            made.push(ShiftLine {
+                second: call.second,
+                side: call.side,
+                id: self.lines[call.place].terms.id,
+            });
+            self.shifted(call.side, call.second);
         }
-        Served {
-            shifts: shifts,
-            made: made,
-            session: self,
-        }
+        made
     }
 }

@@ -1,6 +1,7 @@
--- The ids of the rows below the place are gathered.
-use Rattle.corridor.proofs.Gathered.{Gathered}
+-- The ids of the rows before the one at hand are gathered.
+use Rattle.std.proofs.Common.{◌≡◌, take}
+use Rattle.method.specs.computed.Opening.{ids}
 use Rattle.corridor.proofs.Session.ids.Given as goal
 
-abbrev pub invariant-loop-i : goal.invariant-loop-i
-invariant-loop-i l = Gathered l.self.lines l.i l.got
+abbrev pub invariant-loop-line : goal.invariant-loop-line
+invariant-loop-line l = l.got.items ≡ ids (take l.line-index l.line-items)

@@ -1,73 +1,55 @@
--- Where the inner loop hands a hold over it is the next one, so that one more line has its place and the session may be shifted; where it hands
--- none over, nothing is due any more.
-use Rattle.std.proofs.Common.{◌≡◌, ◌<◌, arith}
+-- What is handed over is the next hold, so that one more line has its place and the session may be shifted; where nothing is, nothing is due
+-- any more.
+use Rattle.std.proofs.Common.{◌≡◌, ◌<◌, arith, sym, Some}
 use Rattle.method.specs.computed.Shift.{shifted}
 use Rattle.method.specs.computed.Search.{next_due}
-use Rattle.method.proofs.Head.{left_within, most-shifted}
-use Rattle.corridor.specs.Names.{At}
+use Rattle.method.proofs.Head.{most-shifted}
 use Rattle.corridor.specs.View.{view}
 use Rattle.corridor.proofs.Views.{view-put, ranged_length}
-use Rattle.corridor.proofs.Due.{row_passes, passed_turn, Next, next-is}
-use Rattle.corridor.proofs.DueServed.{going_start, going_found, going_end, line-is, going_turn}
+use Rattle.corridor.proofs.Due.{Next, next-is}
+use Rattle.corridor.proofs.DueServed.{going_start, going_end, line-is, going_room, going_turn}
 use Rattle.corridor.proofs.Session.served.Goals as goal
-use Rattle.corridor.proofs.Session.served.Goals.{In-At}
+use Rattle.corridor.proofs.Session.served.Goals.{In-Some}
 
--- ---- the loops begin, and a row is passed
-pub serving-init : goal.serving-init
-serving-init c = going_start _ _ c.requires
+pub loop-call-init : goal.loop-call-init
+loop-call-init c = rw c.new-made.ensures (going_start _ _ c.requires)
 
-pub passed-best-requires : goal.passed-best-requires
-passed-best-requires c = let g = c.serving.invariant in row_passes _ c.loop-i.i g.ranged g.waits (omega arith)
+found : (c : In-Some) → next_due c.args.t (view c.loop-call.self) ≡ Some c.in-Some.call
+found c = sym c.in-Some.ensures
 
-pub loop-i-preserved : goal.loop-i-preserved
-loop-i-preserved c = (
-  omega arith,
-  let g = c.serving.invariant in
-      passed_turn _ c.args.self.count c.serving.self.lines c.loop-i.i _ _ (omega arith) (omega arith) c.passed-best.ensures c.loop-i.invariant.1,
-)
-
--- ---- what is handed over is the next hold
-found : (c : In-At) → next_due c.args.t (view c.serving.self) ≡ At c.in-At.c
-found c = going_found c.serving.invariant _ _ _ c.if-i-n.true c.loop-i.invariant.1 c.in-At.ensures
-
-told : (c : In-At) → Next c.args.t (view c.serving.self) c.in-At.c
+told : (c : In-Some) → Next c.args.t (view c.loop-call.self) c.in-Some.call
 told c = next-is _ _ _ (found c)
 
-below : (c : In-At) → c.in-At.c.place < 32
-below c = let g = c.serving.invariant in omega (arith, (told c).place, ranged_length g.ranged, g.ranged.few)
+below : (c : In-Some) → c.in-Some.call.place < 32
+below c = let g = c.loop-call.invariant in omega (arith, (told c).place, ranged_length g.ranged, g.ranged.few)
 
-room-left : (c : In-At) → c.serving.made < 16
-room-left c =
-    let g = c.serving.invariant in
-    omega (arith, g.counted, g.spent, (told c).left, left_within (view c.serving.self))
+pub offset_bounds-self-call : goal.offset_bounds-self-call
+offset_bounds-self-call c = omega (arith, below (goal.at.offset_bounds-self-call c).In-Some)
 
-pub offset_bounds-self-place : goal.offset_bounds-self-place
-offset_bounds-self-place c = omega (arith, below (goal.at.offset_bounds-self-place c).In-At)
+pub bounds-self-call : goal.bounds-self-call
+bounds-self-call c = below (goal.at.bounds-self-call c).In-Some
 
-pub bounds-self-place : goal.bounds-self-place
-bounds-self-place c = below (goal.at.bounds-self-place c).In-At
+pub push-requires : goal.push-requires
+push-requires c = (omega arith, going_room c.loop-call.invariant (told (goal.at.push-requires c).In-Some))
 
-pub bounds-shifts-made : goal.bounds-shifts-made
-bounds-shifts-made c = room-left (goal.at.bounds-shifts-made c).In-At
+pub shifted-requires : goal.shifted-requires
+shifted-requires c = (c.loop-call.invariant.ranged, (told (goal.at.shifted-requires c).In-Some).left)
 
-pub shifted-self-requires : goal.shifted-self-requires
-shifted-self-requires c = (c.serving.invariant.ranged, (told (goal.at.shifted-self-requires c).In-At).left)
+pub loop-call-smaller : goal.loop-call-smaller
+loop-call-smaller c =
+    let s = c.loop-call.self in
+    let x = c.in-Some.call in
+    rw (c.shifted.ensures, view-put s (shifted x.side x.second (view s)))
+    (most-shifted x.side x.second (view s) (told (goal.at.loop-call-smaller c).In-Some).left)
 
--- ---- a turn, and the end
-pub serving-smaller : goal.serving-smaller
-serving-smaller c =
-    let s = c.serving.self in
-    let x = c.in-At.c in
-    rw (c.shifted-self.ensures, view-put s (shifted x.side x.second (view s)))
-    (most-shifted x.side x.second (view s) (told (goal.at.serving-smaller c).In-At).left)
+pub loop-call-preserved : goal.loop-call-preserved
+loop-call-preserved c =
+    let at = (goal.at.loop-call-preserved c).In-Some in
+    let g = c.loop-call.invariant in
+    rw c.push.ensures.items (going_turn g _ _ _ (found at) (line-is g _ (told at)) c.shifted.ensures)
 
-pub serving-preserved : goal.serving-preserved
-serving-preserved c =
-    let at = (goal.at.serving-preserved c).In-At in
-    let g = c.serving.invariant in
-    going_turn g _ _ _ (found at) (line-is g _ (told at)) c.shifted-self.ensures
+pub returns-clause-told : goal.returns-clause-told
+returns-clause-told c = (going_end c.loop-call.invariant (sym c.in_default.ensures)).0
 
-pub returns : goal.returns
-returns c =
-    let g = c.serving.invariant in
-    going_end g (going_found g _ _ _ c.if-i-n.true c.loop-i.invariant.1 c.in-Nothing.ensures)
+pub returns-clause-left : goal.returns-clause-left
+returns-clause-left c = (going_end c.loop-call.invariant (sym c.in_default.ensures)).1

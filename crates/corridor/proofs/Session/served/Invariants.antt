@@ -1,19 +1,11 @@
--- The outer loop serves the holds that are due, one in each turn; the inner one looks at each row for the hold that goes first.
-use Rattle.std.proofs.Common.{◌≤◌, ◌-◌}
+-- The holds that are due are served one in each turn, and each uses up one of the shifts that are left.
 use Rattle.method.specs.computed.Head.{most_left}
 use Rattle.corridor.specs.View.{view}
-use Rattle.corridor.proofs.Due.{Passed}
 use Rattle.corridor.proofs.DueServed.{Going}
 use Rattle.corridor.proofs.Session.served.Given as goal
 
-abbrev pub invariant-serving : goal.invariant-serving
-invariant-serving l = Going l.t l.fn.self l.n l.wait l.end l.self l.shifts l.made
+abbrev pub invariant-loop-call : goal.invariant-loop-call
+invariant-loop-call l = Going l.t l.fn.self l.self l.made.items
 
-abbrev pub decreases-serving : goal.decreases-serving
-decreases-serving l = most_left (view l.self)
-
-abbrev pub invariant-loop-i : goal.invariant-loop-i
-invariant-loop-i l = (l.i ≤ l.n) × Passed l.wait l.n l.self.lines l.i l.best
-
-abbrev pub decreases-loop-i : goal.decreases-loop-i
-decreases-loop-i l = l.n - l.i
+abbrev pub decreases-loop-call : goal.decreases-loop-call
+decreases-loop-call l = most_left (view l.self)
