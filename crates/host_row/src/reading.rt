@@ -27,7 +27,11 @@ fn signed(n: u64) -> Steps
     ensures { result ≡ steps (signed_in n) }
 {
     let half = (n / 2) as i64;
-    if n % 2 == 0 { Steps(half) } else { Steps(-1 - half) }
+    if n % 2 == 0 {
+        Steps(half)
+    } else {
+        Steps(-1 - half)
+    }
 }
 
 #[tactic(auto, unfolding(crate::specs::Packed::price_in))]
