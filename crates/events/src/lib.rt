@@ -2,11 +2,13 @@
 
 #![tactic(auto)]
 
-ghost use Rattle.std.specs.Prelude.{◌≡◌, ◌<◌};
-ghost use Rattle.method.specs.computed.Event.{zero_if_absent, in_if_present, read_tick, read_quote, read};
+ghost use Rattle.std.specs.Prelude.{◌≡◌, ◌<◌, Ok, Err};
+ghost use Rattle.method.specs.computed.Event.{zero_if_absent, price_of, read_tick, read_quote, read};
+ghost use Rattle.method.specs.told.Questions.{demand};
+ghost use Rattle.events.specs.Prices.{price_in};
 ghost use Rattle.events.specs.Cutting.{cut_at};
 
-use method::{Event, EventReason, Quote};
+use method::{Event, EventReason, Price, Quote};
 use numbers::{Seconds, Steps};
 
 // Where the event that begins at `from` ends: after 20 bytes, or with the buffer.
@@ -17,18 +19,24 @@ pub fn cut(from: usize, size: usize) -> usize
     if size - from < 20 { size } else { from + 20 }
 }
 
-// A price that is absent is 0.
-fn zero_if_absent(present: bool, z: Steps) -> bool
-    ensures { result ≡ zero_if_absent present z.0 }
+// A price field: its flag says whether a price is there, and a price that is absent is 0.
+fn price(present: bool, z: Steps) -> Result<Price, EventReason>
+    ensures { result ≡ demand (zero_if_absent present z.0) (Err EventReason.AbsentNotZero) (Ok (price_of present z.0)) }
 {
-    present || z == Steps(0)
+    if present {
+        Ok(Some(z))
+    } else if z == Steps(0) {
+        Ok(None)
+    } else {
+        Err(EventReason::AbsentNotZero)
+    }
 }
 
 // A price that is present lies in its range.
-fn in_if_present(present: bool, z: Steps) -> bool
-    ensures { result ≡ in_if_present present z.0 }
+fn in_range(price: Price) -> bool
+    ensures { result ≡ price_in price }
 {
-    !present || (method::LOWEST_QUOTE..=method::LARGEST_QUOTE).contains(&z.0)
+    price.is_none_or(|z| (Steps(method::LOWEST_QUOTE)..=Steps(method::LARGEST_QUOTE)).contains(&z))
 }
 
 // A tick names no contract and has no price.
@@ -54,21 +62,15 @@ fn read_quote(
 ) -> Result<Event, EventReason>
     ensures { result ≡ read_quote time id flags bid.0 ask.0 }
 {
-    let has_bid = wire::bit(0, flags);
-    let has_ask = wire::bit(1, flags);
     if !wire::reserved_zero(flags) {
-        Err(EventReason::Malformed)
-    } else if !(zero_if_absent(has_bid, bid) && zero_if_absent(has_ask, ask)) {
-        Err(EventReason::AbsentNotZero)
-    } else if !(in_if_present(has_bid, bid) && in_if_present(has_ask, ask)) {
-        Err(EventReason::PriceOutOfRange)
+        return Err(EventReason::Malformed);
+    }
+    let bid = price(wire::bit(0, flags), bid)?;
+    let ask = price(wire::bit(1, flags), ask)?;
+    if in_range(bid) && in_range(ask) {
+        Ok(Event::Quoted(Quote { time, id, bid, ask }))
     } else {
-        Ok(Event::Quoted(Quote {
-            time,
-            id,
-            bid: has_bid.then_some(bid),
-            ask: has_ask.then_some(ask),
-        }))
+        Err(EventReason::PriceOutOfRange)
     }
 }
 
