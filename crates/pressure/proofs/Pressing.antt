@@ -1,4 +1,5 @@
 -- What the steps of the near test come to fits an `i64`, from what they ask; and a line's room is all that its pressure asks. Assumes nothing.
+use Rattle.std.specs.Prelude.{Some}
 use mathlib.Core.Path.{◌≡◌, subst}
 use Prim.Native.Nat.{ℕ, ◌≤◌, ◌<◌, ◌^◌}
 use native.Mathlib.Omega.{arith}
@@ -13,7 +14,7 @@ use Rattle.method.specs.words.Ranges.{whole, largest_near_share}
 use Rattle.method.specs.words.Pressure.{price}
 use Rattle.method.specs.computed.Rooms.{largest_limit, PriceIn, BookIn, Room}
 use Rattle.method.proofs.Rooms.{upper_in, lower_in}
-use Rattle.pressure.specs.Names.{Side, Up, Down, Steps, Millionths, Limits, Price, Given, Book, Line}
+use Rattle.pressure.specs.Names.{Side, Up, Down, Steps, Millionths, Limits, Price, Book, Line}
 use Rattle.pressure.specs.Asks.{LimitsWithin, Apart, JudgeableLine}
 
 module _ {near : ℕ} {k : Limits} {a b : ℤ} (q : Apart near k a b) where
@@ -35,7 +36,7 @@ module _ {near : ℕ} {k : Limits} {a b : ℤ} (q : Apart near k a b) where
 pub ruleset distances = (distance_fits, width_fits, distance_product, width_product, share_fits, cast_back)
 
 -- ---- a price that is given
-pub given_in : {x : Price} {p : Steps} → x ≡ Given p → PriceIn x → Within largest_limit p.0
+pub given_in : {x : Price} {p : Steps} → x ≡ Some p → PriceIn x → Within largest_limit p.0
 unfolding PriceIn
 given_in {x} {p} e h = within_more (subst PriceIn e h) (lit≤ tt)
 

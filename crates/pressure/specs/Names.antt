@@ -4,7 +4,6 @@ pub use Rattle.numbers.specs.declared.Millionths.{Millionths}
 pub use Rattle.method.specs.declared.Side.{Side}
 pub use Rattle.method.specs.declared.Side.TheVariants.{Up, Down}
 pub use Rattle.method.specs.declared.Limits.{Limits}
-pub use Rattle.method.specs.declared.Price.{Price}
-pub use Rattle.method.specs.declared.Price.TheVariants.{Given}
+pub use Rattle.method.specs.words.Types.{Price}
 pub use Rattle.method.specs.declared.Book.{Book}
 pub use Rattle.method.specs.declared.Line.{Line}

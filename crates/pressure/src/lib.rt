@@ -20,8 +20,7 @@ fn near_by(near: Millionths, k: Limits, from: Steps, to: Steps) -> bool
 {
     let distance = from.0 - to.0;
     let width = k.upper.0 - k.lower.0;
-    let share = near.0 as i64;
-    distance * WHOLE < share * width
+    distance * WHOLE < i64::from(near.0) * width
 }
 
 // A price beyond its limit has a negative distance, and is close too.
@@ -30,17 +29,12 @@ fn close(side: Side, near: Millionths, k: Limits, p: Price) -> bool
     requires { Tested near k p }
     ensures { result ≡ close side near k p }
 {
-    match p {
-        Price::Absent => false,
-        Price::Given(z) => match side {
-            Side::Up => near_by(near, k, k.upper, z),
-            Side::Down => {
-                if k.frozen {
-                    return false;
-                }
-                near_by(near, k, z, k.lower)
-            }
-        },
+    let Some(z) = p else {
+        return false;
+    };
+    match side {
+        Side::Up => near_by(near, k, k.upper, z),
+        Side::Down => !k.frozen && near_by(near, k, z, k.lower),
     }
 }
 
@@ -60,10 +54,7 @@ fn under_pressure(watched: bool, side: Side, near: Millionths, k: Limits, b: Boo
     requires { Judgeable near k b }
     ensures { result ≡ under_pressure watched side near k b }
 {
-    if watched {
-        return close(side, near, k, price(side, b));
-    }
-    false
+    watched && close(side, near, k, price(side, b))
 }
 
 // One side, judged at the second `now` (METHOD 14.2): a hold that stands keeps its start as long as there is pressure.
@@ -71,13 +62,7 @@ fn under_pressure(watched: bool, side: Side, near: Millionths, k: Limits, b: Boo
 fn judged(now: Seconds, pressed: bool, h: Hold) -> Hold
     ensures { result ≡ judged now pressed h }
 {
-    if pressed {
-        return match h {
-            Hold::Idle => Hold::Since(now),
-            Hold::Since(start) => Hold::Since(start),
-        };
-    }
-    Hold::Idle
+    if pressed { h.or(Some(now)) } else { None }
 }
 
 // Both holds, over all that they hang on. Where no shift is left no hold exists, and no price is looked at.
@@ -95,16 +80,13 @@ pub fn judge(
     ensures { result ≡ judge w near left now k b h }
 {
     if left == 0 {
-        return Holds {
-            up: Hold::Idle,
-            down: Hold::Idle,
-        };
+        Holds::default()
+    } else {
+        Holds {
+            up: judged(now, under_pressure(w.up, Side::Up, near, k, b), h.up),
+            down: judged(now, under_pressure(w.down, Side::Down, near, k, b), h.down),
+        }
     }
-    let up = h.up;
-    let down = h.down;
-    let u = judged(now, under_pressure(w.up, Side::Up, near, k, b), up);
-    let d = judged(now, under_pressure(w.down, Side::Down, near, k, b), down);
-    Holds { up: u, down: d }
 }
 
 // ---- a line
@@ -114,9 +96,7 @@ pub fn presses(side: Side, near: Millionths, l: Line) -> bool
     requires { JudgeableLine near l }
     ensures { result ≡ presses side near l }
 {
-    let k = l.limits;
-    let b = l.book;
-    under_pressure(wire::bit_1(l.terms.flags), side, near, k, b)
+    under_pressure(wire::bit(1, l.terms.flags), side, near, l.limits, l.book)
 }
 
 #[tactic(auto, unfolding(method::specs::computed::Judge::judge_line))]
@@ -124,14 +104,13 @@ pub fn judge_line(near: Millionths, left: u32, now: Seconds, l: Line) -> Line
     requires { JudgeableLine near l }
     ensures { result ≡ judge_line near left now l }
 {
-    let watched = wire::bit_1(l.terms.flags);
+    let watched = wire::bit(1, l.terms.flags);
     let w = Watch {
         up: watched,
         down: watched,
     };
-    let k = l.limits;
-    let b = l.book;
-    let h = l.holds;
-    let holds = judge(w, near, left, now, k, b, h);
-    Line { holds: holds, ..l }
+    Line {
+        holds: judge(w, near, left, now, l.limits, l.book, l.holds),
+        ..l
+    }
 }

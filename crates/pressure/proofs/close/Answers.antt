@@ -6,5 +6,5 @@ use Rattle.pressure.proofs.close.Goals as goal
 pub near_by-requires : goal.near_by-requires
 near_by-requires c = search (rules, given_in)
 
-pub near_by-requires-in-Down : goal.near_by-requires-in-Down
-near_by-requires-in-Down c = search (rules, given_in)
+pub near_by-requires-then-not-k : goal.near_by-requires-then-not-k
+near_by-requires-then-not-k c = search (rules, given_in)
