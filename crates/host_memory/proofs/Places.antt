@@ -1,10 +1,11 @@
 -- One place of a session in memory: the head or a line that is read there, and what is written. Assumes nothing.
 use mathlib.Core.Path.{◌≡◌, refl, sym, ap, ◌∙◌}
 use mathlib.Core.List.{List, [], ◌∷◌, map}
-use Prim.Native.Nat.{ℕ, zero, suc, ◌<◌}
+use Prim.Native.Nat.{ℕ, zero, suc, ◌<◌, ◌≤◌}
 use native.Mathlib.Omega.{arith}
 use lib.ListN.{length, get_or, set, take, length-map, get_or-map}
 use lib.Seq.{get_or-take, length-take-le, take-set-le, take-set-lt, get_or-set_same, get_or-set_other}
+use Rattle.std.proofs.lemmas.List.{take-map, take-take}
 use Rattle.method.specs.words.Types.{blank}
 use Rattle.corridor.specs.View.{with_line}
 use Rattle.host_row.specs.Packed.{no_row, line_in, head_in}
@@ -58,3 +59,8 @@ unfolding session_in
 head_stored pairs pair long e =
     ap (λ (ls : List Line). session_of ls (head_in (head_of (set pairs 32 pair)))) (ap (map line_in) (take-set-le 32 pairs 32 pair (omega arith)))
     ∙ ap (session_of (map line_in (take 32 pairs))) (ap (λ (r : List (List ℕ)). head_in (get_or r 0 no_row)) (get_or-set_same pairs 32 pair no_pair (omega arith)) ∙ e)
+
+-- ---- the lines in use are read
+pub lines_in_use : (pairs : Memory) (n : ℕ) → n ≤ 32 → map line_in (take n pairs) ≡ take n (session_in pairs).lines
+unfolding session_in
+lines_in_use pairs n h = sym (take-map line_in n (take 32 pairs) ∙ ap (map line_in) (take-take n 32 pairs h))

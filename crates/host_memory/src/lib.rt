@@ -3,7 +3,7 @@
 
 #![tactic(auto)]
 
-ghost use Rattle.std.specs.Prelude.{◌≡◌, ◌<◌, length, get_or};
+ghost use Rattle.std.specs.Prelude.{◌≡◌, ◌<◌, ◌≤◌, length, get_or, map, take};
 ghost use Rattle.method.specs.words.Types.{blank};
 ghost use Rattle.corridor.specs.View.{moved_on, with_line};
 ghost use Rattle.host_row.specs.Packed.{no_row, line_in, head_in};
@@ -43,19 +43,27 @@ pub fn line_at(memory: &Memory, place: usize) -> Line
     reading::line(&memory[place])
 }
 
-// Of a line its id alone, or its holds: what a walk over all lines wants.
-pub fn id_at(memory: &Memory, place: usize) -> u32
-    requires { place < 32 }
-    ensures { result ≡ (get_or (session_in memory.now).lines place blank).terms.id }
+// The pairs of the lines in use.
+pub fn lines(memory: &Memory) -> &[Pair]
+    requires { (session_in memory.now).count ≤ 32 }
+    ensures { map line_in result.now ≡ take (session_in memory.now).count (session_in memory.now).lines }
 {
-    reading::id(&memory[place][0])
+    &memory[..head(memory).count]
 }
 
-pub fn holds_at(memory: &Memory, place: usize) -> Holds
-    requires { place < 32 }
-    ensures { result ≡ (get_or (session_in memory.now).lines place blank).holds }
+// Of a line its id alone, or its holds: what a walk over all lines wants.
+#[tactic(auto, unfolding(host_row::specs::Packed::line_in))]
+pub fn id(pair: &Pair) -> u32
+    ensures { result ≡ (line_in pair.now).terms.id }
 {
-    reading::holds(&memory[place][1])
+    reading::id(&pair[0])
+}
+
+#[tactic(auto, unfolding(host_row::specs::Packed::line_in))]
+pub fn holds(pair: &Pair) -> Holds
+    ensures { result ≡ (line_in pair.now).holds }
+{
+    reading::holds(&pair[1])
 }
 
 pub fn taken(memory: &Memory) -> Session
