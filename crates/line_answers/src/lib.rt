@@ -11,23 +11,21 @@ ghost use Rattle.method.specs.told.Rows.{closing_row};
 ghost use Rattle.method.specs.computed.Rooms.{largest_reach, HoldIn, Room};
 ghost use Rattle.bounds.specs.Asks.{Drawn};
 
-use method::{
-    BothBounds, Closing, Hold, HoldReport, HoldTimes, Limits, Line, PlaceAnswer, Report, Row, Side,
-};
+use method::{BothBounds, Closing, Hold, HoldTimes, Limits, Line, Place, Report, Row, Side};
 use numbers::{Seconds, Steps};
 
 // Both limits count as inside.
 #[tactic(auto, unfolding(method::specs::told::Questions::placed))]
-pub fn placed(k: Limits, price: Steps) -> PlaceAnswer
+pub fn placed(k: Limits, price: Steps) -> Place
     ensures { result ≡ placed k price }
 {
-    if price.0 < k.lower.0 {
-        return PlaceAnswer::Below;
+    if price < k.lower {
+        Place::Below
+    } else if k.upper < price {
+        Place::Above
+    } else {
+        Place::Inside
     }
-    if k.upper.0 < price.0 {
-        return PlaceAnswer::Above;
-    }
-    PlaceAnswer::Inside
 }
 
 #[tactic(auto, unfolding(method::specs::told::Report::market_bounds))]
@@ -35,11 +33,9 @@ fn market_bounds(centre: Steps, half: Steps) -> BothBounds
     requires { Within largest_reach centre.0 × Within largest_reach half.0 }
     ensures { result ≡ market_bounds centre half }
 {
-    let upper = bounds::market_bound(Side::Up, centre, half);
-    let lower = bounds::market_bound(Side::Down, centre, half);
     BothBounds {
-        upper: upper,
-        lower: lower,
+        upper: bounds::market_bound(Side::Up, centre, half),
+        lower: bounds::market_bound(Side::Down, centre, half),
     }
 }
 
@@ -48,29 +44,21 @@ fn interest_bounds(l: Line) -> BothBounds
     requires { Drawn l.terms.factors l.market }
     ensures { result ≡ interest_bounds l }
 {
-    let t = l.terms;
-    let f = t.factors;
-    let m = l.market;
-    let upper = bounds::bound(Side::Up, f, m);
-    let lower = bounds::bound(Side::Down, f, m);
     BothBounds {
-        upper: upper,
-        lower: lower,
+        upper: bounds::bound(Side::Up, l.terms.factors, l.market),
+        lower: bounds::bound(Side::Down, l.terms.factors, l.market),
     }
 }
 
 #[tactic(auto, unfolding(method::specs::told::Report::hold_report, method::specs::computed::Rooms::HoldIn))]
-fn hold_report(wait: Seconds, h: Hold) -> HoldReport
+fn hold_report(wait: Seconds, h: Hold) -> Option<HoldTimes>
     requires { (wait.0 ≤ longest_hold) × HoldIn h }
     ensures { result ≡ hold_report wait h }
 {
-    match h {
-        Hold::Idle => HoldReport::NoHold,
-        Hold::Since(start) => HoldReport::Holding(HoldTimes {
-            start: start,
-            due: Seconds(start.0 + wait.0),
-        }),
-    }
+    h.map(|start| HoldTimes {
+        start,
+        due: Seconds(start.0 + wait.0),
+    })
 }
 
 // All that a gate or an operator asks of a line, with the session's shifts left and its clock.
@@ -80,33 +68,18 @@ pub fn line_report(wait: Seconds, left: u32, clock: Seconds, l: Line) -> Report
     ensures { result ≡ line_report wait left clock l }
 {
     let m = l.market;
-    let h = l.holds;
-    let limits = l.limits;
-    let interest = interest_bounds(l);
-    let centre = m.centre;
-    let half1 = m.half1;
-    let half2 = m.half2;
-    let half3 = m.half3;
-    let level1 = market_bounds(centre, half1);
-    let level2 = market_bounds(centre, half2);
-    let level3 = market_bounds(centre, half3);
-    let holdup = h.up;
-    let holddown = h.down;
-    let up = hold_report(wait, holdup);
-    let down = hold_report(wait, holddown);
-    let book = l.book;
     Report {
-        limits: limits,
-        interest: interest,
-        centre: centre,
-        level1: level1,
-        level2: level2,
-        level3: level3,
-        up: up,
-        down: down,
-        book: book,
-        left: left,
-        clock: clock,
+        limits: l.limits,
+        interest: interest_bounds(l),
+        centre: m.centre,
+        level1: market_bounds(m.centre, m.half1),
+        level2: market_bounds(m.centre, m.half2),
+        level3: market_bounds(m.centre, m.half3),
+        up: hold_report(wait, l.holds.up),
+        down: hold_report(wait, l.holds.down),
+        book: l.book,
+        left,
+        clock,
     }
 }
 
@@ -116,18 +89,12 @@ pub fn closing_row(l: Line) -> Row
     requires { Drawn l.terms.factors l.market }
     ensures { result ≡ closing_row l }
 {
-    let t = l.terms;
-    let k = l.limits;
-    let lower = k.lower;
-    let upper = k.upper;
     let interest = interest_bounds(l);
-    let lowerbound = interest.lower;
-    let upperbound = interest.upper;
     Row::Closed(Closing {
-        id: t.id,
-        lower: lower,
-        upper: upper,
-        lowerbound: lowerbound,
-        upperbound: upperbound,
+        id: l.terms.id,
+        lower: l.limits.lower,
+        upper: l.limits.upper,
+        lowerbound: interest.lower,
+        upperbound: interest.upper,
     })
 }
