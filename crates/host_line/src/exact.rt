@@ -19,36 +19,13 @@ fn hold_of(side: Side, h: Holds) -> Hold
     }
 }
 
-fn stands(h: Hold) -> bool
-    ensures { result ≡ standing h }
-{
-    match h {
-        Hold::Idle => false,
-        Hold::Since(_) => true,
-    }
-}
-
 // Where no shift is left no hold stands, and no price is looked at.
-fn pressed(side: Side, near: Millionths, left: u32, l: Line) -> bool
-    requires { JudgeableLine near l }
-    ensures { result ≡ (ltb 0 left && presses side near l) }
-{
-    if left == 0 {
-        return false;
-    }
-    pressure::presses(side, near, l)
-}
-
 fn exact_on(side: Side, near: Millionths, left: u32, l: Line) -> bool
     requires { JudgeableLine near l }
     ensures { Decides result (standing (hold_of side l.holds) ≡ (ltb 0 left && presses side near l)) }
 {
-    let h = l.holds;
-    let pressed = pressed(side, near, left, l);
-    if stands(hold_of(side, h)) {
-        return pressed;
-    }
-    !pressed
+    let pressed = 0 < left && pressure::presses(side, near, l);
+    hold_of(side, l.holds).is_some() == pressed
 }
 
 #[tactic(auto, unfolding(method::specs::computed::Sound::Exact))]
@@ -56,8 +33,5 @@ pub fn exact(near: Millionths, left: u32, l: Line) -> bool
     requires { JudgeableLine near l }
     ensures { Decides result (Exact near left l) }
 {
-    if !exact_on(Side::Up, near, left, l) {
-        return false;
-    }
-    exact_on(Side::Down, near, left, l)
+    exact_on(Side::Up, near, left, l) && exact_on(Side::Down, near, left, l)
 }

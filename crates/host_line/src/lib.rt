@@ -21,8 +21,5 @@ pub fn line(near: Millionths, left: u32, most: u32, l: Line) -> bool
     requires { (most ≤ most_shifts) × (near.0 ≤ largest_near_share) }
     ensures { Decides result (Room most l × Exact near left l) }
 {
-    if !room::room(most, l) {
-        return false;
-    }
-    exact::exact(near, left, l)
+    room::room(most, l) && exact::exact(near, left, l)
 }

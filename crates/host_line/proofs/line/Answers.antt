@@ -3,4 +3,4 @@ use Rattle.pressure.proofs.Pressing.{room_judgeable}
 use Rattle.host_line.proofs.line.Goals as goal
 
 pub exact-requires : goal.exact-requires
-exact-requires c = room_judgeable c.if-not-room.ensures c.requires.1
+exact-requires c = room_judgeable c.if-room.ensures c.requires.1
