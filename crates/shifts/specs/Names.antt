@@ -6,5 +6,5 @@ pub use Rattle.method.specs.declared.Factors.{Factors}
 pub use Rattle.method.specs.declared.Terms.{Terms}
 pub use Rattle.method.specs.declared.Market.{Market}
 pub use Rattle.method.specs.declared.Limits.{Limits}
-pub use Rattle.method.specs.declared.Price.{Price}
+pub use Rattle.method.specs.words.Types.{Price}
 pub use Rattle.method.specs.declared.Line.{Line}

@@ -11,7 +11,7 @@ ghost use Rattle.pressure.specs.Asks.{JudgeableLine};
 ghost use Rattle.shifts.specs.Asks.{Movable, Carried, Redrawable, Shiftable, Shifts, raised_by, lowered_by};
 
 use bounds::limits;
-use method::{Book, Hold, Holds, Limits, Line, Market, Quote, Side, Terms};
+use method::{Book, Holds, Limits, Line, Market, Quote, Side, Terms};
 use numbers::{Millionths, Seconds, Steps};
 
 // z moved by a half-move.
@@ -32,15 +32,11 @@ fn moved(side: Side, by: Steps, m: Market) -> Market
     requires { Movable by.0 m }
     ensures { result ≡ moved side by m }
 {
-    let centre = toward(side, by, m.centre);
-    let first = toward(Side::Up, by, m.half1);
-    let second = toward(Side::Up, by, m.half2);
-    let third = toward(Side::Up, by, m.half3);
     Market {
-        centre: centre,
-        half1: first,
-        half2: second,
-        half3: third,
+        centre: toward(side, by, m.centre),
+        half1: toward(Side::Up, by, m.half1),
+        half2: toward(Side::Up, by, m.half2),
+        half3: toward(Side::Up, by, m.half3),
     }
 }
 
@@ -50,7 +46,7 @@ fn raised(k: Limits, from: Steps, to: Steps) -> Limits
     ensures { result ≡ raised_by k from.0 to.0 }
 {
     let upper = Steps(k.upper.0 + (to.0 - from.0));
-    Limits { upper: upper, ..k }
+    Limits { upper, ..k }
 }
 
 // The lower limit goes with its bound.
@@ -59,7 +55,7 @@ fn lowered(k: Limits, from: Steps, to: Steps) -> Limits
     ensures { result ≡ lowered_by k from.0 to.0 }
 {
     let lower = Steps(k.lower.0 - (from.0 - to.0));
-    Limits { lower: lower, ..k }
+    Limits { lower, ..k }
 }
 
 // The limits as the market goes from m to n. The shifted side's limit moves by its bound's growth, not by the half-move.
@@ -68,12 +64,11 @@ fn redrawn(side: Side, t: Terms, m: Market, n: Market, k: Limits) -> Limits
     requires { Redrawable t m n k }
     ensures { result ≡ redrawn side t m n k }
 {
-    let f = t.factors;
-    let from = bounds::bound(side, f, m);
-    let to = bounds::bound(side, f, n);
+    let from = bounds::bound(side, t.factors, m);
+    let to = bounds::bound(side, t.factors, n);
     match side {
         Side::Up => raised(k, from, to),
-        Side::Down => limits::floored(wire::bit_0(t.flags), lowered(k, from, to)),
+        Side::Down => limits::floored(wire::bit(0, t.flags), lowered(k, from, to)),
     }
 }
 
@@ -82,14 +77,8 @@ fn ended(side: Side, h: Holds) -> Holds
     ensures { result ≡ ended side h }
 {
     match side {
-        Side::Up => Holds {
-            up: Hold::Idle,
-            ..h
-        },
-        Side::Down => Holds {
-            down: Hold::Idle,
-            ..h
-        },
+        Side::Up => Holds { up: None, ..h },
+        Side::Down => Holds { down: None, ..h },
     }
 }
 
@@ -99,17 +88,11 @@ fn moved_line(side: Side, l: Line) -> Line
     requires { Shiftable l }
     ensures { result ≡ moved_line side l }
 {
-    let t = l.terms;
-    let m = l.market;
-    let k = l.limits;
-    let h = l.holds;
-    let n = moved(side, t.halfmove, m);
-    let drawn = redrawn(side, t, m, n, k);
-    let holds = ended(side, h);
+    let market = moved(side, l.terms.halfmove, l.market);
     Line {
-        market: n,
-        limits: drawn,
-        holds: holds,
+        market,
+        limits: redrawn(side, l.terms, l.market, market, l.limits),
+        holds: ended(side, l.holds),
         ..l
     }
 }
@@ -129,9 +112,9 @@ pub fn quoted_line(near: Millionths, left: u32, q: Quote, l: Line) -> Line
     requires { JudgeableLine near (with_book l q.bid q.ask) }
     ensures { result ≡ quoted_line near left q l }
 {
-    let bid = q.bid;
-    let ask = q.ask;
-    let book = Book { bid: bid, ask: ask };
-    let now = q.time;
-    pressure::judge_line(near, left, now, Line { book: book, ..l })
+    let book = Book {
+        bid: q.bid,
+        ask: q.ask,
+    };
+    pressure::judge_line(near, left, q.time, Line { book, ..l })
 }

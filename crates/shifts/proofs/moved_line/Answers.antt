@@ -2,5 +2,5 @@
 use Rattle.shifts.proofs.Moving.{shiftable_redrawable}
 use Rattle.shifts.proofs.moved_line.Goals as goal
 
-pub redrawn-drawn-requires : goal.redrawn-drawn-requires
-redrawn-drawn-requires c = rw c.moved-n.ensures (shiftable_redrawable c.requires c.args.side)
+pub redrawn-requires : goal.redrawn-requires
+redrawn-requires c = rw c.moved-market.ensures (shiftable_redrawable c.requires c.args.side)
