@@ -3,24 +3,17 @@
 #![tactic(auto)]
 
 ghost use Rattle.std.specs.Prelude.{◌≡◌, map, ◌+◌, ◌*◌, ◌≤◌, pos, length};
-ghost use Rattle.method.specs.declared.Row.TheVariants as RowOf;
-ghost use Rattle.method.specs.told.Refusals.{table_number, field_place, field_number, event_number};
-ghost use Rattle.method.specs.told.Rows.{row_numbers, numbers_of, side_number};
+ghost use Rattle.method.specs.told.Refusals.{table_number, field_number, event_number};
+ghost use Rattle.method.specs.told.Rows.{row_numbers, numbers_of};
 ghost use Rattle.rows.specs.Buffer.{written, needed};
-ghost use Rattle.rows.specs.Fits.{largest_number, Fits};
+ghost use Rattle.rows.specs.Fits.{Fits};
 
-use method::{Closing, EventReason, Field, Row, ShiftLine, Side, TableReason};
+use method::{EventReason, Row, ShiftLine, TableReason};
 
 // Why nothing was done: the lent buffer would have to take so many numbers. Where there is room, the answer is how many were written.
 #[derive(Clone, Copy, PartialEq, Eq)]
 pub struct NoRoom {
     pub needed: usize,
-}
-
-fn side_number(side: Side) -> i64
-    ensures { result ≡ pos (side_number side) }
-{
-    side as i64
 }
 
 #[tactic(auto, unfolding(method::specs::told::Refusals::event_number))]
@@ -48,87 +41,49 @@ fn table_number(why: TableReason) -> i64
     }
 }
 
-// The place of a field in the contract's line.
-#[tactic(auto, unfolding(method::specs::told::Refusals::field_place))]
-fn field_place(f: Field) -> i64
-    ensures { result ≡ pos (field_place f) }
-{
-    f as i64
-}
-
-// That of the field at fault, and 0 where no field is named.
-#[tactic(auto, unfolding(method::specs::told::Refusals::field_number))]
+// The place in the contract's line of the field at fault, and 0 where no field is named.
+#[tactic(auto, unfolding(method::specs::told::Refusals::field_number, method::specs::told::Refusals::field_place))]
 fn field_number(why: TableReason) -> i64
     ensures { result ≡ pos (field_number why) }
 {
     match why {
-        TableReason::Field(f) => field_place(f),
+        TableReason::Field(f) => f as i64,
         _ => 0,
     }
 }
 
-// ---- the rows, by their kinds
-
-#[tactic(auto, unfolding(method::specs::told::Rows::row_numbers))]
-fn shift(c: ShiftLine) -> [i64; 6]
-    ensures { result ≡ row_numbers (RowOf.Shift c) }
-{
-    [
-        1,
-        i64::from(c.second.0),
-        side_number(c.side),
-        i64::from(c.id),
-        0,
-        0,
-    ]
-}
-
-#[tactic(auto, unfolding(method::specs::told::Rows::row_numbers))]
-fn refused_event(why: EventReason, place: usize) -> [i64; 6]
-    requires { place ≤ largest_number }
-    ensures { result ≡ row_numbers (RowOf.RefusedEvent why place) }
-{
-    [2, event_number(why), place as i64, 0, 0, 0]
-}
-
-#[tactic(auto, unfolding(method::specs::told::Rows::row_numbers))]
-fn refused_table(why: TableReason, line: u32) -> [i64; 6]
-    ensures { result ≡ row_numbers (RowOf.RefusedTable why line) }
-{
-    [
-        3,
-        table_number(why),
-        i64::from(line),
-        field_number(why),
-        0,
-        0,
-    ]
-}
-
-#[tactic(auto, unfolding(method::specs::told::Rows::row_numbers))]
-fn closed(c: Closing) -> [i64; 6]
-    ensures { result ≡ row_numbers (RowOf.Closed c) }
-{
-    [
-        4,
-        i64::from(c.id),
-        c.lower.0,
-        c.upper.0,
-        c.lowerbound.0,
-        c.upperbound.0,
-    ]
-}
-
 // A row in six numbers: its kind, its values in the printed order and, of a refused event, its place; with 0 where nothing stands.
+#[tactic(auto, unfolding(method::specs::told::Rows::row_numbers))]
 pub fn row_numbers(row: Row) -> [i64; 6]
     requires { Fits row }
     ensures { result ≡ row_numbers row }
 {
     match row {
-        Row::Shift(c) => shift(c),
-        Row::RefusedEvent(why, place) => refused_event(why, place),
-        Row::RefusedTable(why, line) => refused_table(why, line),
-        Row::Closed(c) => closed(c),
+        Row::Shift(c) => [
+            1,
+            i64::from(c.second.0),
+            c.side as i64,
+            i64::from(c.id),
+            0,
+            0,
+        ],
+        Row::RefusedEvent(why, place) => [2, event_number(why), place as i64, 0, 0, 0],
+        Row::RefusedTable(why, line) => [
+            3,
+            table_number(why),
+            i64::from(line),
+            field_number(why),
+            0,
+            0,
+        ],
+        Row::Closed(c) => [
+            4,
+            i64::from(c.id),
+            c.lower.0,
+            c.upper.0,
+            c.lowerbound.0,
+            c.upperbound.0,
+        ],
     }
 }
 
