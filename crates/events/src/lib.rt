@@ -36,7 +36,7 @@ fn price(present: bool, z: Steps) -> Result<Price, EventReason>
 fn in_range(price: Price) -> bool
     ensures { result ≡ price_in price }
 {
-    price.is_none_or(|z| (Steps(method::LOWEST_QUOTE)..=Steps(method::LARGEST_QUOTE)).contains(&z))
+    price.is_none_or(|z| (method::LOWEST_QUOTE..=method::LARGEST_QUOTE).contains(&z.0))
 }
 
 // A tick names no contract and has no price.
