@@ -1,9 +1,9 @@
 -- The line that a question is about.
-use Rattle.std.specs.Prelude.{ℕ}
+use Rattle.questions.specs.Names.{Line}
 use Rattle.method.specs.words.Types.{State}
 use Rattle.method.specs.told.Questions.{known, line_of, demand}
-use Rattle.questions.specs.declared.Sought.{Sought}
+use Rattle.std.specs.Prelude.{ℕ, Option, Some, None}
 
 -- the line of an id
-unfoldable pub sought : ℕ → State → Sought
-sought id s = demand (known id s) Sought.Nowhere (Sought.At (line_of id s.lines))
+unfoldable pub sought : ℕ → State → Option Line
+sought id s = demand (known id s) None (Some (line_of id s.lines))

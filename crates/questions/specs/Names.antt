@@ -2,7 +2,4 @@
 pub use Rattle.numbers.specs.declared.Steps.{Steps}
 pub use Rattle.method.specs.declared.Line.{Line}
 pub use Rattle.method.specs.declared.EventReason.{EventReason}
-pub use Rattle.method.specs.declared.LimitsAnswer.{LimitsAnswer}
-pub use Rattle.method.specs.declared.PlaceAnswer.{PlaceAnswer}
-pub use Rattle.method.specs.declared.ReportAnswer.{ReportAnswer}
 pub use Rattle.corridor.specs.declared.Session.{Session}
