@@ -7,23 +7,22 @@ ghost use Rattle.corridor.specs.View.{Valid};
 ghost use Rattle.closing.specs.Closing.{closed, closed_into};
 
 use corridor::Session;
-use rows::RowsAnswer;
+use rows::NoRoom;
 
 // Where the room is not there, nothing is written.
 #[tactic(auto, unfolding(crate::specs::Closing::closed, crate::specs::Closing::closed_into))]
-pub fn close(s: Session, out: &mut [i64]) -> RowsAnswer
-    requires { Valid s }
-    ensures value { result ≡ closed s (length out.old) }
-    ensures out_after { out.new ≡ closed_into s out.old }
+pub fn close(s: &Session, out: &mut [i64]) -> Result<usize, NoRoom>
+    requires { Valid s.now }
+    ensures value { result ≡ closed s.now (length out.old) }
+    ensures out_after { out.new ≡ closed_into s.now out.old }
 {
-    let n = s.count;
-    let needed = 6 * n;
+    let lines = &s.lines[..s.count];
+    let needed = 6 * lines.len();
     if out.len() < needed {
-        return RowsAnswer::NoRoom(needed);
+        return Err(NoRoom { needed });
     }
-    for i in 0..n {
-        let row = line_answers::closing_row(s.lines[i]);
-        rows::write(out, 6 * i, row);
+    for (i, l) in lines.iter().enumerate() {
+        rows::write(out, 6 * i, line_answers::closing_row(*l));
     }
-    RowsAnswer::Written(needed)
+    Ok(needed)
 }
