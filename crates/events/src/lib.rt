@@ -39,7 +39,8 @@ fn in_range(price: Price) -> bool
     price.is_none_or(|z| (method::LOWEST_QUOTE..=method::LARGEST_QUOTE).contains(&z.0))
 }
 
-// A tick names no contract and has no price.
+// A tick names no contract and has no price. The fields come one by one here and in `read_quote`, as the method's definitions of these names take them:
+// a struct of them would be read once and taken apart at once.
 #[tactic(auto, unfolding(method::specs::computed::Event::read_tick))]
 fn read_tick(time: Seconds, id: u32, bid: Steps, ask: Steps) -> Result<Event, EventReason>
     ensures { result ≡ read_tick time id bid.0 ask.0 }
