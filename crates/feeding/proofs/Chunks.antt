@@ -1,5 +1,6 @@
 -- Feeding: what is told fits into the room, the session handed back is valid, a buffer may be fed in two parts, and feeding it is handing it to
 -- `event` piece by piece. Assumes nothing.
+use Rattle.std.specs.Prelude.{Ok}
 use mathlib.Core.Path.{◌≡◌, refl, sym, ap, subst, ◌∙◌}
 use mathlib.Core.List.{List, [], ◌∷◌, ◌++◌, map, append_assoc, map-append}
 use Prim.Native.Nat.{ℕ, zero, suc, ◌+◌, ◌*◌, ◌/◌, ◌≤◌}
@@ -22,11 +23,9 @@ use Rattle.method.proofs.Demands.{by_cond}
 use Rattle.rows.specs.Buffer.{written}
 use Rattle.rows.proofs.Buffer.{written_on, numbers-long, numbers-append}
 use Rattle.corridor.specs.declared.Session.{Session}
-use Rattle.rows.specs.declared.RowsAnswer.{RowsAnswer}
-use Rattle.feeding.specs.declared.Fed.{Fed}
 use Rattle.feeding.specs.Names.{ShiftLine}
 use Rattle.corridor.specs.View.{view, put, Valid}
-use Rattle.feeding.specs.Feeding.{feed_needs, rows_for, told, left_by, fed, fed_into, ToldFits, FeedValid, FeedingIsTheSame}
+use Rattle.feeding.specs.Feeding.{feed_needs, rows_for, told, left_by, fed_answer, fed_session, fed_into, ToldFits, FeedValid, FeedingIsTheSame}
 use Rattle.feeding.specs.Chunks.{raised, behind, FeedOn}
 use Rattle.corridor.proofs.Views.{view-put, put-put}
 use Rattle.corridor.proofs.Events.{finally-kept}
@@ -124,23 +123,27 @@ module _ (s : Session) (xs ys : List ℕ) (k : ℕ) (whole : length xs ≡ 20 * 
       ∙ ap (λ (x : State). put (left_by s xs) (finally x (events_of ys))) (sym seen)
 
 -- ---- the same, said of `feed`
-pub fed-is : (s : Session) (size : ℕ) (b : List ℕ) → feed_needs (length b) ≤ size → fed s size b ≡ record { answer = RowsAnswer.Written (length (told s b)); session = left_by s b }
-unfolding fed
-fed-is s size b h = rw (le-ltb size (feed_needs (length b)) h)
+pub fed_answer-is : (s : Session) (size : ℕ) (b : List ℕ) → feed_needs (length b) ≤ size → fed_answer s size b ≡ Ok (length (told s b))
+unfolding fed_answer
+fed_answer-is s size b h = rw (le-ltb size (feed_needs (length b)) h)
+
+pub fed_session-is : (s : Session) (size : ℕ) (b : List ℕ) → feed_needs (length b) ≤ size → fed_session s size b ≡ left_by s b
+unfolding fed_session
+fed_session-is s size b h = rw (le-ltb size (feed_needs (length b)) h)
 
 pub fed_into-is : (s : Session) (out : List ℤ) (b : List ℕ) → feed_needs (length b) ≤ length out → fed_into s out b ≡ written out 0 (told s b)
 unfolding fed_into
 fed_into-is s out b h = rw (le-ltb (length out) (feed_needs (length b)) h)
 
 pub valid_feed : FeedValid
-unfolding fed
+unfolding fed_session
 valid_feed s size b v =
-    by_cond (λ (r : Fed). Valid r.session) (ltb size (feed_needs (length b))) (λ e. v) (λ e. valid-left s b v)
+    by_cond Valid (ltb size (feed_needs (length b))) (λ e. v) (λ e. valid-left s b v)
 
 pub feed_on : FeedOn
 feed_on s xs ys k whole v =
     record {
-      session = λ m n p h g i. rw (fed-is s m xs h, fed-is (left_by s xs) n ys g, fed-is s p (xs ++ ys) i) (sym (left_on s xs ys k whole));
+      session = λ m n p h g i. rw (fed_session-is s m xs h, fed_session-is (left_by s xs) n ys g, fed_session-is s p (xs ++ ys) i) (sym (left_on s xs ys k whole));
       numbers = numbers;
       buffer = buffer;
     }

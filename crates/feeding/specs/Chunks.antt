@@ -7,7 +7,7 @@ use Rattle.method.specs.told.Program.{events_of}
 use Rattle.corridor.specs.declared.Session.{Session}
 use Rattle.corridor.specs.View.{Valid}
 use Rattle.rows.specs.Buffer.{written}
-use Rattle.feeding.specs.Feeding.{feed_needs, rows_for, told, left_by, fed, fed_into}
+use Rattle.feeding.specs.Feeding.{feed_needs, rows_for, told, left_by, fed_session, fed_into}
 
 -- all bytes, one chunk after another
 abbrev pub all_bytes : List (List ℕ) → List ℕ
@@ -64,7 +64,7 @@ OneBuffer = (s : Session) (cs : List (List ℕ)) → Valid s → WholeButLast cs
 -- behind what xs left in it
 pub record FedOn (s : Session) (xs ys : List ℕ) : Type 0 where
   pub session : (m n p : ℕ) → feed_needs (length xs) ≤ m → feed_needs (length ys) ≤ n → feed_needs (length (xs ++ ys)) ≤ p
-      → (fed (fed s m xs).session n ys).session ≡ (fed s p (xs ++ ys)).session
+      → fed_session (fed_session s m xs) n ys ≡ fed_session s p (xs ++ ys)
   pub numbers : told s (xs ++ ys) ≡ told s xs ++ numbers_of (behind xs (rows_for (left_by s xs) ys))
   pub buffer : (out : List ℤ) → feed_needs (length xs) ≤ length out → feed_needs (length (xs ++ ys)) ≤ length out
       → fed_into s out (xs ++ ys) ≡ written (fed_into s out xs) (length (told s xs)) (numbers_of (behind xs (rows_for (left_by s xs) ys)))

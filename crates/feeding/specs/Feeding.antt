@@ -1,5 +1,5 @@
 -- A buffer of events fed to a session, and their answers as rows of numbers in a lent buffer.
-use Rattle.std.specs.Prelude.{◌≡◌, cond, List, ℕ, ◌≤◌, ltb, ℤ, length}
+use Rattle.std.specs.Prelude.{◌≡◌, cond, List, ℕ, ◌≤◌, ltb, ℤ, length, Ok}
 use Rattle.method.specs.words.Ranges.{most_shifts}
 use Rattle.method.specs.declared.Row.{Row}
 use Rattle.method.specs.told.Rows.{rows_of_all, numbers_of}
@@ -7,8 +7,7 @@ use Rattle.method.specs.told.Program.{events_of}
 use Rattle.method.specs.computed.Search.{run, finally}
 use Rattle.rows.specs.Buffer.{written, needed}
 use Rattle.corridor.specs.declared.Session.{Session}
-use Rattle.rows.specs.declared.RowsAnswer.{RowsAnswer}
-use Rattle.feeding.specs.declared.Fed.{Fed}
+use Rattle.rows.specs.Answer.{RowsAnswer, no_room}
 use Rattle.corridor.specs.View.{view, put, Valid}
 use Rattle.corridor.specs.Engine.{one_by_one, left_after}
 
@@ -26,11 +25,13 @@ told s b = numbers_of (rows_for s b)
 abbrev pub left_by : Session → List ℕ → Session
 left_by s b = put s (finally (view s) (events_of b))
 
--- what is handed back for the bytes b and a buffer of so many numbers
-unfoldable pub fed : Session → ℕ → List ℕ → Fed
-fed s size b =
-    cond (ltb size (feed_needs (length b))) (record { answer = RowsAnswer.NoRoom (feed_needs (length b)); session = s })
-    (record { answer = RowsAnswer.Written (length (told s b)); session = left_by s b })
+-- what is answered for the bytes b and a buffer of so many numbers: how many are told, or the room that is not there
+unfoldable pub fed_answer : Session → ℕ → List ℕ → RowsAnswer
+fed_answer s size b = cond (ltb size (feed_needs (length b))) (no_room (feed_needs (length b))) (Ok (length (told s b)))
+
+-- the session then
+unfoldable pub fed_session : Session → ℕ → List ℕ → Session
+fed_session s size b = cond (ltb size (feed_needs (length b))) s (left_by s b)
 
 -- what the buffer holds then
 unfoldable pub fed_into : Session → List ℤ → List ℕ → List ℤ
@@ -40,10 +41,10 @@ fed_into s out b = cond (ltb (length out) (feed_needs (length b))) out (written 
 abbrev pub ToldFits : Type 0
 ToldFits = (s : Session) (b : List ℕ) → Valid s → length (told s b) ≤ feed_needs (length b)
 
--- From a valid session `feed` hands back a valid one, whatever buffer is lent, and where its room is too little too. [valid_feed, in
+-- From a valid session `feed` leaves a valid one, whatever buffer is lent, and where its room is too little too. [valid_feed, in
 -- proofs/Chunks]
 abbrev pub FeedValid : Type 0
-FeedValid = (s : Session) (size : ℕ) (b : List ℕ) → Valid s → Valid (fed s size b).session
+FeedValid = (s : Session) (size : ℕ) (b : List ℕ) → Valid s → Valid (fed_session s size b)
 
 -- Handing a buffer to `event` piece by piece is feeding it: the same numbers, and the same session. [feeding_is_the_same, in
 -- proofs/Chunks]

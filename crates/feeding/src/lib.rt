@@ -5,121 +5,86 @@
 ghost use Rattle.std.specs.Prelude.{◌≡◌, ◌≤◌, length};
 ghost use Rattle.corridor.specs.View.{view, Valid};
 ghost use Rattle.feeding.specs.Quiet.{quiet_until};
-ghost use Rattle.feeding.specs.Feeding.{fed, fed_into};
+ghost use Rattle.feeding.specs.Feeding.{fed_answer, fed_session, fed_into};
 
 use corridor::Session;
 use method::Row;
 use numbers::Seconds;
-use rows::RowsAnswer;
-use verdict::{Change, Verdict};
+use rows::NoRoom;
 
 const MOST_SHIFTS: usize = method::MOST_SHIFTS as usize;
 
-// The answer to a buffer of events, and beside it the session.
-#[derive(Clone, Copy)]
-pub struct Fed {
-    pub answer: RowsAnswer,
-    pub session: Session,
-}
-
-// For each of the first n ids a guess at its place, which spares most searches. Nothing hangs on its being right.
-fn guessed(ids: &[u32; 32], n: usize) -> [u8; 256]
-    requires { n ≤ 32 }
+// For each id a guess at its place, which spares most searches. Nothing hangs on its being right.
+fn guessed(ids: &[u32]) -> [u8; 256]
+    requires { length ids.now ≤ 32 }
 {
-    let mut places: [u8; 256] = [0; 256];
-    for i in 0..n {
-        let slot = (ids[i] % 256) as usize;
-        places[slot] = i as u8;
+    let mut places = [0; 256];
+    for (place, &id) in ids.iter().enumerate() {
+        places[(id % 256) as usize] = place as u8;
     }
     places
 }
 
 // The second of the hold that goes first; where none stands, one that no event reaches.
-fn quiet_until(s: Session) -> Seconds
-    requires { Valid s }
-    ensures { result ≡ quiet_until (view s) }
+fn quiet_until(s: &Session) -> Seconds
+    requires { Valid s.now }
+    ensures { result ≡ quiet_until (view s.now) }
 {
-    let n = s.count;
-    let wait = s.hold;
-    let mut quiet = Seconds(4294967295);
-    for i in 0..n {
-        let l = s.lines[i];
-        let h = l.holds;
-        quiet = due::until(quiet, wait, h);
+    let mut quiet = Seconds(u32::MAX);
+    for line in &s.lines[..s.count] {
+        quiet = due::until(quiet, s.hold, line.holds);
     }
     quiet
 }
 
-// Every event of the buffer in turn; a last one that is cut short is refused like any string that is no event. The room is worked out
-// first: where it is not there, nothing is done. The session stays in its place: before the second `quiet` no hold is due, and from it on
-// that second is found anew before the session goes by value to be served; then it is 0, to be found at the next event. `event` is the
-// place of the event at hand.
-pub fn feed(mut s: Session, events: &[u8], out: &mut [i64]) -> Fed
-    requires { Valid s }
-    ensures value { result ≡ fed s (length out.old) events.now }
-    ensures out_after { out.new ≡ fed_into s out.old events.now }
+// Every event of the buffer in turn; a last one that is cut short is refused like any string that is no event. The room is worked out first:
+// where it is not there, nothing is done. Before the second `quiet` no hold is due, and from it on that second is found anew before the session
+// is searched for due holds; once these are served it is 0, to be found at the next event.
+pub fn feed(session: &mut Session, events: &[u8], out: &mut [i64]) -> Result<usize, NoRoom>
+    requires { Valid session.old }
+    ensures value { result ≡ fed_answer session.old (length out.old) events.now }
+    ensures left { session.new ≡ fed_session session.old (length out.old) events.now }
+    ensures out_after { out.new ≡ fed_into session.old out.old events.now }
 {
-    let size = events.len();
-    let needed = rows::needed(size, MOST_SHIFTS);
+    let needed = rows::needed(events.len(), MOST_SHIFTS);
     if out.len() < needed {
-        return Fed {
-            answer: RowsAnswer::NoRoom(needed),
-            session: s,
-        };
+        return Err(NoRoom { needed });
     }
-    let n = s.count;
-    let ids = s.ids();
-    let guesses = guessed(&ids, n);
+    let ids = session.ids();
+    let guesses = guessed(&ids);
     let mut quiet = Seconds(0);
-    let mut at: usize = 0;
-    let mut from: usize = 0;
-    let mut event: usize = 0;
-    while from < size {
-        event = event + 1;
-        let to = events::cut(from, size);
-        let e = events::read(&events[from..to]);
-        from = to;
-        let end = s.end;
-        let clock = s.clock;
-        let slot = verdict::slot(e);
-        let guess = guesses[slot];
-        match verdict::screen(&ids[..n], guess, end, clock, e) {
-            Verdict::Refused(why) => {
-                rows::write(out, at, Row::RefusedEvent(why, event));
-                at = at + 6;
+    let mut at = 0;
+    for (event, bytes) in events.chunks(20).enumerate() {
+        let said = events::read(bytes);
+        let guess = guesses[verdict::slot(said)];
+        match verdict::screen(&ids, guess, session.end, session.clock, said) {
+            Err(why) => {
+                rows::write(out, at, Row::RefusedEvent(why, event + 1));
+                at += 6;
             }
-            Verdict::Taken(v) => {
-                let t = v.time;
-                if t.0 >= quiet.0 {
-                    quiet = quiet_until(s);
+            Ok(taken) => {
+                if taken.time >= quiet {
+                    quiet = quiet_until(session);
                 }
-                if quiet.0 <= t.0 {
-                    let r = s.served(t);
-                    let shifts = r.shifts;
-                    at = rows::write_shifts(out, at, shifts, r.made);
-                    s = r.session;
+                if quiet <= taken.time {
+                    let shifts = session.served(taken.time);
+                    at = rows::write_shifts(out, at, &shifts);
                     quiet = Seconds(0);
                 }
-                let change = v.change;
-                match change {
-                    Change::Nothing => {}
-                    Change::Quote(p) => {
-                        let near = s.near;
-                        let q = p.quote;
-                        let place = p.place;
-                        let m = shifts::quoted_line(near, s.left, q, s.lines[place]);
-                        s.lines[place] = m;
-                        let wait = s.hold;
-                        let h = m.holds;
-                        quiet = due::until(quiet, wait, h);
-                    }
+                if let Some(placed) = taken.change {
+                    let before = session.lines[placed.place];
+                    let line = shifts::quoted_line(
+                        session.near,
+                        session.left,
+                        placed.quote,
+                        before,
+                    );
+                    session.lines[placed.place] = line;
+                    quiet = due::until(quiet, session.hold, line.holds);
                 }
-                s.clock = t;
+                session.clock = taken.time;
             }
         }
     }
-    Fed {
-        answer: RowsAnswer::Written(at),
-        session: s,
-    }
+    Ok(at)
 }

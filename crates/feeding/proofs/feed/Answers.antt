@@ -1,143 +1,152 @@
--- One event of the buffer: it is cut out and screened, and then refused with a row, or taken after the holds that were due by its time.
-use Rattle.std.proofs.Common.{◌<◌, ◌-◌, take, drop, ap, subst, ◌∙◌, arith}
+-- One event of the buffer: it comes off the pieces and is screened, and then refused with a row, or taken after the holds that were due by its
+-- time.
+use Rattle.std.proofs.Common.{◌≡◌, ◌<◌, ℕ, Some, None, false, set, subst, sym, ap, ◌∙◌, arith}
+use Rattle.std.specs.Ordering.{is_le, nat_cmp}
+use Rattle.std.specs.Slice.Iter.{chunks_rest}
+use Rattle.std.specs.Iterator.Adapters.{enumerate_source}
+use Rattle.std.proofs.lemmas.Bool.Decides.{nat_tests}
 use Rattle.method.specs.computed.Event.{read}
-use Rattle.verdict.specs.declared.Change.{Change}
 use Rattle.due.specs.Quiet.{until}
 use Rattle.feeding.specs.Names.{Line}
-use Rattle.corridor.specs.View.{view, with_line}
+use Rattle.corridor.specs.declared.Session.{Session}
+use Rattle.corridor.specs.View.{view, moved_on}
 use Rattle.corridor.proofs.Views.{view-length}
-use Rattle.feeding.proofs.Quiet.{Quiet, quiet_first}
 use Rattle.corridor.proofs.Named.{named-below}
 use Rattle.corridor.proofs.Saying.{Changes, Takes, session_says}
 use Rattle.corridor.proofs.Events.{quote_asks, quote_in}
-use Rattle.events.proofs.Cutting.{cut_is}
-use Rattle.feeding.proofs.Feeding.{all_fed, all_into, nothing-fed, nothing_into}
-use Rattle.feeding.proofs.Turns.{Caught, caught_none, caught_served, served-few, shifts_fit, turn_refused, turn_holds, turn_taken}
+use Rattle.feeding.proofs.Quiet.{Quiet, quiet_first}
+use Rattle.feeding.proofs.Feeding.{Piece, piece_of, all_answer, all_session, all_into, nothing_answer, nothing_session, nothing_into}
+use Rattle.feeding.proofs.Turns.{Caught, caught_none, caught_served, shifts_fit, turn_refused, turn_holds, turn_taken}
 use Rattle.feeding.proofs.feed.Goals as goal
-use Rattle.feeding.proofs.feed.Goals.{In-Taken, In-Quote, then-t-quiet, else-t-quiet, then-quiet-t, else-quiet-t, in-Nothing, in-Quote}
+use Rattle.feeding.proofs.feed.Goals.{In-Some, In-Ok, In-Some-change, Joined-le, then-ge, else-ge, then-le, else-le, in-Some-change, in_default}
 
 -- ---- no room
 pub returns-then-out-needed-clause-value : goal.returns-then-out-needed-clause-value
 returns-then-out-needed-clause-value c =
-    nothing-fed c.args.s c.args.out.now c.args.events.now c.needed-needed.ensures c.if-out-needed.true
+    nothing_answer c.args.session.now c.args.out.now c.args.events.now c.needed-needed.ensures c.if-out-needed.true
+
+pub returns-then-out-needed-clause-left : goal.returns-then-out-needed-clause-left
+returns-then-out-needed-clause-left c =
+    nothing_session c.args.session.now c.args.out.now c.args.events.now c.needed-needed.ensures c.if-out-needed.true
 
 pub returns-then-out-needed-clause-out_after : goal.returns-then-out-needed-clause-out_after
 returns-then-out-needed-clause-out_after c =
-    nothing_into c.args.s c.args.out.now c.args.events.now c.needed-needed.ensures c.if-out-needed.true
+    nothing_into c.args.session.now c.args.out.now c.args.events.now c.needed-needed.ensures c.if-out-needed.true
 
--- ---- the event at hand: what the screen takes of it, and of its quote
-takes : (c : In-Taken)
-    → Takes (view c.loop-from.s) (read (take (c.cut-to.result - c.loop-from.from) (drop c.loop-from.from c.args.events.now))) c.in-Taken.v
-takes c = session_says c.loop-from.s c.loop-from.invariant.named c.read-e.ensures c.in-Taken.ensures
+-- ---- the event at hand: its piece, and what the screen takes of it and of its quote
+piece : (c : In-Some) → Piece (chunks_rest (enumerate_source c.loop-event.event-iterator)) c.in-Some.bytes.now (chunks_rest (enumerate_source c.next.new.self))
+piece c = piece_of c.loop-event.invariant.twenty c.in-Some.ensures.steps.0.1
 
-changes : (c : In-Quote)
-    → Changes (view c.loop-from.s) (read (take (c.cut-to.result - c.loop-from.from) (drop c.loop-from.from c.args.events.now))) (Change.Quote c.in-Quote.p)
+takes : (c : In-Ok) → Takes (view c.loop-event.session) (read c.in-Some.bytes.now) c.in-Ok.taken
+takes c =
+    session_says c.loop-event.session (c.deref-in-loop-event.ensures.0 ∙ c.loop-event.invariant.named) c.read-said.ensures c.in-Ok.ensures
+
+changes : (c : In-Some-change) → Changes (view c.loop-event.session) (read c.in-Some.bytes.now) (Some c.in-Some-change.placed)
 changes c =
-    let e = read (take (c.cut-to.result - c.loop-from.from) (drop c.loop-from.from c.args.events.now)) in
-    subst (Changes (view c.loop-from.s) e) c.in-Quote.is (takes (goal.at-In-Quote c).In-Taken).changes
+    subst (Changes (view c.loop-event.session) (read c.in-Some.bytes.now)) c.in-Some-change.is (takes (goal.at-In-Some-change c).In-Ok).changes
 
-below : (c : In-Quote) → c.in-Quote.p.place < 32
+below : (c : In-Some-change) → c.in-Some-change.placed.place < 32
 below c =
-    let v = c.loop-from.invariant.ahead.valid in
-    let named = named-below c.in-Quote.p.quote.id (view c.loop-from.s).lines c.in-Quote.p.place (changes c).1 in
+    let v = c.loop-event.invariant.ahead.valid in
+    let named = named-below c.in-Some-change.placed.quote.id (view c.loop-event.session).lines c.in-Some-change.placed.place (changes c).1 in
     omega (arith, named, view-length v, v.few)
 
 -- ---- a refusal: its row is written
-pub loop-from-preserved-in-Refused : goal.loop-from-preserved-in-Refused
-loop-from-preserved-in-Refused c =
-    let at = c.loop-from in
-    turn_refused c.args.s c.args.events.now c.args.out.now _ _ at.invariant c.loop-from-test.true
-    (cut_is _ _ _ c.loop-from-test.true c.cut-to.ensures) c.in-Refused.why
-    (session_says at.s at.invariant.named c.read-e.ensures c.in-Refused.ensures) c.write.ensures
+pub loop-event-preserved-in-Err : goal.loop-event-preserved-in-Err
+loop-event-preserved-in-Err c =
+    let at = c.loop-event in
+    let s = c.in-Some.ensures.steps in
+    rw (s.0.0, s.2)
+    (turn_refused c.args.session.now c.args.events.now c.args.out.now _ at.invariant (piece (goal.at.loop-event-preserved-in-Err c).In-Some) c.in-Err.why
+    (session_says at.session (c.deref-in-loop-event.ensures.0 ∙ at.invariant.named) c.read-said.ensures c.in-Err.ensures) (rw s.1 at c.write.ensures))
 
 -- ---- the holds that are due are served, or none is
 pub write_shifts-at-requires : goal.write_shifts-at-requires
 write_shifts-at-requires c =
-    let at = c.loop-from in
-    let few = served-few at.s _ at.invariant.ahead.valid c.served-r.result c.served-r.ensures in (
-      few.0,
-      shifts_fit c.args.s c.args.events.now c.args.out.now _ _ at.invariant c.loop-from-test.true
-          (cut_is _ _ _ c.loop-from-test.true c.cut-to.ensures) _ few.1,
-    )
+    let q = goal.at.write_shifts-at-requires c in
+    rw (c.deref-then-le.ensures.0, c.served-shifts.ensures.told)
+    (shifts_fit c.args.session.now c.args.events.now c.args.out.now _ c.loop-event.invariant (piece q.In-Some) c.in-Ok.taken (takes q.In-Ok))
+
+over : (x y : ℕ) → false ≡ is_le (nat_cmp x y) → y < x
+over x y h = grind (arith, nat_tests)
 
 -- Before the quiet second nothing is due, also where it was found anew; and once the holds by then are served, it is to be found anew.
-caught : (c : In-Quote) → Caught c.loop-from.s c.in-Taken.v.time c.loop-from.at c.loop-from.out c.if-quiet-t.s c.if-quiet-t.quiet c.if-quiet-t.at c.if-quiet-t.out
+caught : (c : Joined-le) → Caught c.loop-event.session c.in-Ok.taken.time c.loop-event.at c.loop-event.out c.if-le.session c.if-le.quiet c.if-le.at c.if-le.out
 caught c =
-    let at = c.loop-from in
-    let still : Quiet c.if-t-quiet.quiet (view at.s) =
-    elim c.if-t-quiet.branch [
-      | then-t-quiet w ↦ rw (w.quiet-is ∙ w.quiet_until-quiet.ensures) (quiet_first (view at.s))
-      | else-t-quiet w ↦ rw w.quiet-is at.invariant.none-due
+    let at = c.loop-event in
+    let still : Quiet c.if-ge.quiet (view at.session) =
+    elim c.if-ge.branch [
+      | then-ge w ↦ rw (w.quiet-is ∙ w.quiet_until-quiet.ensures) (quiet_first (view at.session))
+      | else-ge w ↦ rw w.quiet-is at.invariant.none-due
     ] in
-    elim c.if-quiet-t.branch [
-      | then-quiet-t w ↦
-          caught_served at.s _ at.at at.out w.served-r.result w.served-r.ensures (w.out-is ∙ w.write_shifts-at.ensures.out_after) w.s-is w.quiet-is
+    elim c.if-le.branch [
+      | then-le w ↦
+          caught_served at.session _ at.at at.out w.deref-then-le.result.now (w.deref-then-le.ensures.0 ∙ w.served-shifts.ensures.told)
+          (w.session-is ∙ w.served-shifts.ensures.left) (w.out-is ∙ w.write_shifts-at.ensures.out_after) w.quiet-is
           (w.at-is ∙ w.write_shifts-at.ensures.value)
-      | else-quiet-t w ↦ caught_none at.s _ at.at at.out _ at.invariant.ahead.valid still w.if-quiet-t.false w.out-is w.s-is w.quiet-is w.at-is
+      | else-le w ↦
+          caught_none at.session _ at.at at.out _ at.invariant.ahead.valid still (over _ _ (sym w.if-le.false ∙ c.le.ensures)) w.out-is w.session-is
+          w.quiet-is w.at-is
     ]
 
 -- ---- the line of a quote
-pub offset_bounds-s-place : goal.offset_bounds-s-place
-offset_bounds-s-place c = omega (arith, below (goal.at.offset_bounds-s-place c).In-Quote)
+pub offset_bounds-session-placed : goal.offset_bounds-session-placed
+offset_bounds-session-placed c = omega (arith, below (goal.at.offset_bounds-session-placed c).In-Some-change)
 
-pub bounds-s-place : goal.bounds-s-place
-bounds-s-place c = below (goal.at.bounds-s-place c).In-Quote
+pub bounds-session-placed : goal.bounds-session-placed
+bounds-session-placed c = below (goal.at.bounds-session-placed c).In-Some-change
 
-pub offset_bounds-s-place-in-Quote : goal.offset_bounds-s-place-in-Quote
-offset_bounds-s-place-in-Quote c = omega (arith, below (goal.at.offset_bounds-s-place-in-Quote c).In-Quote)
+pub offset_bounds-session-placed-in-Some-change : goal.offset_bounds-session-placed-in-Some-change
+offset_bounds-session-placed-in-Some-change c =
+    omega (arith, below (goal.at.offset_bounds-session-placed-in-Some-change c).In-Some-change)
 
-pub bounds-s-place-in-Quote : goal.bounds-s-place-in-Quote
-bounds-s-place-in-Quote c = below (goal.at.bounds-s-place-in-Quote c).In-Quote
+pub bounds-session-placed-in-Some-change : goal.bounds-session-placed-in-Some-change
+bounds-session-placed-in-Some-change c = below (goal.at.bounds-session-placed-in-Some-change c).In-Some-change
 
-pub quoted_line-m-requires : goal.quoted_line-m-requires
-quoted_line-m-requires c =
-    let q = (goal.at.quoted_line-m-requires c).In-Quote in
+pub quoted_line-line-requires : goal.quoted_line-line-requires
+quoted_line-line-requires c =
+    let q = (goal.at.quoted_line-line-requires c).In-Some-change in
     let o = changes q in
-    quote_asks c.loop-from.s c.in-Taken.v.time c.in-Quote.p.quote c.in-Quote.p.place _ c.loop-from.invariant.ahead.valid o.1
-    (quote_in _ c.in-Quote.p.quote o.0) (caught q).served
+    quote_asks c.loop-event.session c.in-Ok.taken.time c.in-Some-change.placed.quote c.in-Some-change.placed.place _ c.loop-event.invariant.ahead.valid o.1
+    (quote_in _ c.in-Some-change.placed.quote o.0) (caught (goal.at.quoted_line-line-requires c).Joined-le).served
 
 pub until-quiet-requires : goal.until-quiet-requires
 until-quiet-requires c =
-    let q = (goal.at.until-quiet-requires c).In-Quote in
-    turn_holds c.args.s c.args.events.now c.args.out.now _ _ c.loop-from.invariant c.loop-from-test.true
-    (cut_is _ _ _ c.loop-from-test.true c.cut-to.ensures) _ (takes (goal.at-In-Quote q).In-Taken) (caught q) c.in-Quote.p c.in-Quote.is _
-    c.quoted_line-m.ensures
+    let q = goal.at.until-quiet-requires c in
+    turn_holds c.args.session.now c.args.events.now c.args.out.now _ c.loop-event.invariant (piece q.In-Some) _ (takes q.In-Ok) (caught q.Joined-le)
+    c.in-Some-change.placed c.in-Some-change.is _ c.quoted_line-line.ensures
 
 -- ---- an event that is taken: the next turn
-pub loop-from-preserved : goal.loop-from-preserved
-loop-from-preserved c =
-    let at = c.loop-from in
-    let s = c.if-quiet-t.s in
-    let still : Quiet c.if-t-quiet.quiet (view at.s) =
-    elim c.if-t-quiet.branch [
-      | then-t-quiet w ↦ rw (w.quiet-is ∙ w.quiet_until-quiet.ensures) (quiet_first (view at.s))
-      | else-t-quiet w ↦ rw w.quiet-is at.invariant.none-due
-    ] in
-    let k : Caught at.s c.in-Taken.v.time at.at at.out s c.if-quiet-t.quiet c.if-quiet-t.at c.if-quiet-t.out =
-    elim c.if-quiet-t.branch [
-      | then-quiet-t w ↦
-          caught_served at.s _ at.at at.out w.served-r.result w.served-r.ensures (w.out-is ∙ w.write_shifts-at.ensures.out_after) w.s-is w.quiet-is
-          (w.at-is ∙ w.write_shifts-at.ensures.value)
-      | else-quiet-t w ↦ caught_none at.s _ at.at at.out _ at.invariant.ahead.valid still w.if-quiet-t.false w.out-is w.s-is w.quiet-is w.at-is
-    ] in
+
+pub loop-event-preserved : goal.loop-event-preserved
+loop-event-preserved c =
+    let q = goal.at.loop-event-preserved c in
+    let s = c.in-Some.ensures.steps in
+    let x = c.if-le.session in
+    let t = c.in-Ok.taken.time in
     let then =
-    turn_taken c.args.s c.args.events.now c.args.out.now _ _ at.invariant c.loop-from-test.true
-    (cut_is _ _ _ c.loop-from-test.true c.cut-to.ensures) _ (takes (goal.at.loop-from-preserved c).In-Taken) k in
-    elim c.match-change.branch [
-      | in-Nothing w ↦ then Change.Nothing w.in-Nothing.is c.match-change.s w.s-is c.match-change.quiet w.quiet-is
-      | in-Quote w ↦
-          then (Change.Quote w.in-Quote.p) w.in-Quote.is c.match-change.s
-          (w.s-is ∙ ap (with_line s w.in-Quote.p.place) w.quoted_line-m.ensures) c.match-change.quiet
-          (w.quiet-is ∙ w.until-quiet.ensures ∙ ap (λ (l : Line). until c.if-quiet-t.quiet s.hold l.holds) w.quoted_line-m.ensures)
-    ]
+    turn_taken c.args.session.now c.args.events.now c.args.out.now _ c.loop-event.invariant (piece q.In-Some) c.in-Ok.taken (takes q.In-Ok) (caught q.Joined-le) in
+    rw (s.0.0, s.2)
+    (elim c.match-taken.branch [
+      | in-Some-change w ↦
+          let line : Line → Session = λ l. moved_on x (set x.lines w.in-Some-change.placed.place l) t in
+          then (Some w.in-Some-change.placed) w.in-Some-change.is _ (ap (λ (z : Session). moved_on z z.lines t) w.session-is ∙ ap line w.quoted_line-line.ensures) _
+          (w.quiet-is ∙ w.until-quiet.ensures ∙ ap (λ (l : Line). until c.if-le.quiet x.hold l.holds) w.quoted_line-line.ensures)
+      | in_default w ↦ then None w.in_default.is _ (ap (λ (z : Session). moved_on z z.lines t) w.session-is) _ w.quiet-is
+    ])
 
 -- ---- the end of the buffer
 pub returns-clause-value : goal.returns-clause-value
 returns-clause-value c =
-    all_fed c.args.s c.args.events.now c.args.out.now c.loop-from.invariant.ahead (omega (arith, c.loop-from.invariant.ahead.inside))
+    all_answer c.args.session.now c.args.events.now c.args.out.now c.loop-event.invariant.ahead c.in-None.ensures.steps.0.1.0
+    (omega (arith, c.needed-needed.ensures, c.if-out-needed.false))
+
+pub returns-clause-left : goal.returns-clause-left
+returns-clause-left c =
+    all_session c.args.session.now c.args.events.now c.args.out.now c.loop-event.invariant.ahead c.in-None.ensures.steps.0.1.0
     (omega (arith, c.needed-needed.ensures, c.if-out-needed.false))
 
 pub returns-clause-out_after : goal.returns-clause-out_after
 returns-clause-out_after c =
-    all_into c.args.s c.args.events.now c.args.out.now c.loop-from.invariant.ahead (omega (arith, c.loop-from.invariant.ahead.inside))
+    all_into c.args.session.now c.args.events.now c.args.out.now c.loop-event.invariant.ahead c.in-None.ensures.steps.0.1.0
     (omega (arith, c.needed-needed.ensures, c.if-out-needed.false))
