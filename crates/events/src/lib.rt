@@ -11,7 +11,8 @@ ghost use Rattle.events.specs.Cutting.{cut_at};
 use method::{Event, EventReason, Price, Quote};
 use numbers::{Seconds, Steps};
 
-// Where the event that begins at `from` ends: after 20 bytes, or with the buffer.
+// Where the event that begins at `from` ends: after 20 bytes, or with the buffer. A whole buffer is cut by the library's `chunks`, in the same places;
+// this is promised (docs/PROMISES.md) to whoever looks for the end of one event.
 pub fn cut(from: usize, size: usize) -> usize
     requires { from < size }
     ensures { result ≡ cut_at from size }
