@@ -1,105 +1,111 @@
--- The loop over the contract lines: what holds while the first i of them are opened. Assumes nothing.
+-- The loop over the contract lines: what holds while some of them are opened. Assumes nothing.
 use mathlib.Core.Path.{◌≡◌, refl, sym, ap, ◌∙◌}
 use mathlib.Core.List.{List, [], ◌∷◌, ◌++◌}
-use Prim.Native.Nat.{ℕ, suc, ◌+◌, ◌-◌, ◌*◌, ◌≤◌, ◌<◌}
+use Prim.Native.Nat.{ℕ, suc, ◌+◌, ◌-◌, ◌*◌, ◌<◌}
 use native.Mathlib.Numerals.{add-one}
 use native.Mathlib.Omega.{arith}
-use lib.ListN.{length, set, take, length-append}
-use Rattle.numbers.specs.Arrays.{padded}
-use Rattle.numbers.proofs.Arrays.{padded-set, padded-take}
-use Rattle.method.specs.words.Types.{blank}
+use lib.ListN.{length, take, drop, length-append, length-drop}
+use lib.Seq.{length-take-le}
+use Rattle.std.specs.Prelude.{Result, Ok, Err, MatchResult, IsErrAnd}
+use Rattle.std.proofs.lemmas.List.{take-append-drop}
 use Rattle.method.specs.words.Layout.{contract_at, contracts_at}
 use Rattle.method.specs.words.Tables.{opened, refused, opening_state}
+use Rattle.method.specs.computed.Types.{LineAnswer}
 use Rattle.method.specs.computed.Opening.{open_line}
 use Rattle.method.specs.computed.Table.{open_lines}
-use Rattle.table.specs.Names.{Header, Key, Contract, Line, LineAnswer, TableAnswer, TableReason}
-use Rattle.table.specs.declared.TableReply.{TableReply}
-use Rattle.table.specs.TableReply.{opened_as}
+use Rattle.table_records.proofs.Reading.{contract-before, contracts-after}
+use Rattle.table.specs.Names.{Header, Key, Contract, Line, TableReason, TableRefusal}
+use Rattle.table.specs.Opened.{refusal, opened_as}
 
--- the contracts from the i-th on, of `count`
-abbrev from-line : List ℕ → ℕ → ℕ → ℕ → List Contract
-from-line b start count i = contracts_at b (start + 40 * i) (count - i)
+-- the lines so far, and the contracts in the bytes that are left
+pub record Opening-lines (h : Header) (keys : List Key) (cs : List Contract) (count : ℕ) (lines : List Line) (rest : List ℕ) : Type 0 where
+  pub more : ℕ
+  pub so_far : length lines + more ≡ count
+  pub size : length rest ≡ 40 * more
+  pub onward : open_lines h keys (suc (length lines)) lines (contracts_at rest 0 more) ≡ open_lines h keys 1 [] cs
 
-pub record Opening-lines (b : List ℕ) (h : Header) (keys : List Key) (start count : ℕ) (lines : List Line) (i : ℕ) : Type 0 where
-  pub so_far : i ≤ count
-  pub done : List Line
-  pub size : length done ≡ i
-  pub written : lines ≡ padded 32 blank done
-  pub rest : open_lines h keys (suc i) done (from-line b start count i) ≡ open_lines h keys 1 [] (contracts_at b start count)
-
-pub lines_start : (b : List ℕ) (h : Header) (keys : List Key) (start count : ℕ) → Opening-lines b h keys start count (padded 32 blank []) 0
-lines_start b h keys start count =
+pub lines_start : (b : List ℕ) (h : Header) (keys : List Key) (start count : ℕ) → length b ≡ start + 40 * count
+    → Opening-lines h keys (contracts_at b start count) count [] (drop start b)
+lines_start b h keys start count e =
     record {
+      more = count;
       so_far = omega arith;
-      done = [];
-      size = refl;
-      written = refl;
-      rest = ap (λ (at : ℕ). open_lines h keys 1 [] (contracts_at b at (count - 0))) (omega arith) ∙ ap (λ (n : ℕ). open_lines h keys 1 [] (contracts_at b start n)) (omega arith);
+      size = length-drop start b ∙ omega arith;
+      onward =
+          ap (λ (cs : List Contract). open_lines h keys 1 [] cs)
+          (sym (contracts-after (take start b) (drop start b) start 0 count front)
+          ∙ ap (λ (x : List ℕ). contracts_at x start count) (take-append-drop start b));
     }
-
-contracts-next : (b : List ℕ) (start count i : ℕ) → i < count → from-line b start count i ≡ contract_at b (start + 40 * i) ∷ from-line b start count (suc i)
-unfolding contracts_at
-contracts-next b start count i h =
-    ap (λ (n : ℕ). contracts_at b (start + 40 * i) n) less ∙ ap (λ (at : ℕ). contract_at b (start + 40 * i) ∷ contracts_at b at (count - suc i)) on
   where
-    less : count - i ≡ suc (count - suc i)
-    less = omega arith
+    front : start ≡ length (take start b) + 0
+    front = rw (length-take-le start b (omega arith)) (omega arith)
 
-    on : start + 40 * i + 40 ≡ start + 40 * suc i
-    on = omega arith
+-- one contract read, the bytes later than it, and what it opens
+module _ (h : Header) (keys : List Key) (cs : List Contract) (count : ℕ) (lines : List Line) (rest : List ℕ) (o : Opening-lines h keys cs count lines rest)
+    (first later : List ℕ) (e : rest ≡ first ++ later) (size : length first ≡ 40) (a : LineAnswer)
+    (ea : a ≡ open_line h.shift keys lines (contract_at first 0)) where
+  one-less : o.more ≡ suc (o.more - 1)
+  one-less = omega (arith, o.size, ap length e, length-append first later)
 
-module _ (b : List ℕ) (h : Header) (keys : List Key) (start count : ℕ) (lines : List Line) (i : ℕ) (o : Opening-lines b h keys start count lines i) (g : i < count)
-    (c : Contract) (ec : c ≡ contract_at b (start + 40 * i)) (a : LineAnswer) (ea : a ≡ open_line h.shift keys (take i lines) c) where
-  -- the lines opened so far are the first i
-  front : take i lines ≡ o.done
-  front = rw o.written (ap (λ (n : ℕ). take n (padded 32 blank o.done)) (sym o.size) ∙ padded-take 32 blank o.done)
+  pub lines_room : length lines < count
+  lines_room = omega (arith, o.so_far, one-less)
 
-  answer-is : open_line h.shift keys o.done (contract_at b (start + 40 * i)) ≡ a
-  answer-is = rw (← front, ← ec) (sym ea)
-
-  pub lines-refused : (why : TableReason) → a ≡ LineAnswer.Refused why → opened_as (refused why (i + 1)) ≡ opened_as (open_lines h keys 1 [] (contracts_at b start count))
-  lines-refused why e = rw add-one (ap opened_as (sym stop ∙ o.rest))
-    where
-      stop : open_lines h keys (suc i) o.done (from-line b start count i) ≡ refused why (suc i)
-      stop = unfold open_lines in rw (contracts-next b start count i g, answer-is ∙ e)
-
-  pub lines_turn : (l : Line) → a ≡ LineAnswer.Opened l → i < 32 → Opening-lines b h keys start count (set lines i l) (i + 1)
-  lines_turn l e f =
-      rw add-one
-      (record {
-        so_far = omega arith;
-        done = o.done ++ (l ∷ []);
-        size = length-append o.done (l ∷ []) ∙ after;
-        written = rw o.written (ap (λ (n : ℕ). set (padded 32 blank o.done) n l) (sym o.size) ∙ padded-set 32 blank o.done l room);
-        rest = sym onward ∙ o.rest;
-      })
-    where
-      after : length o.done + 1 ≡ suc i
-      after = omega (arith, o.size)
-
-      room : length o.done < 32
-      room = omega (arith, o.size)
-
-      onward : open_lines h keys (suc i) o.done (from-line b start count i) ≡ open_lines h keys (suc (suc i)) (o.done ++ (l ∷ [])) (from-line b start count (suc i))
-      onward = unfold open_lines in rw (contracts-next b start count i g, answer-is ∙ e)
-
--- every line is opened: what is handed back then
-abbrev handed : Header → List Line → ℕ → TableReply
-handed h lines count =
-    record { answer = TableAnswer.Opened; lines = lines; count = count; end = h.end; hold = h.hold; most = h.most; near = h.near }
-
-module _ (b : List ℕ) (h : Header) (keys : List Key) (start count : ℕ) (lines : List Line) (i : ℕ) (o : Opening-lines b h keys start count lines i) (e : i ≡ count) where
-  none_left : from-line b start count i ≡ []
+  next : contracts_at rest 0 o.more ≡ contract_at first 0 ∷ contracts_at later 0 (o.more - 1)
   unfolding contracts_at
-  none_left = let zero_left : count - i ≡ 0 = omega arith in ap (λ (n : ℕ). contracts_at b (start + 40 * i) n) zero_left
+  next =
+      ap (λ (m : ℕ). contracts_at rest 0 m) one-less
+      ∙ ap (λ (x : List ℕ). contracts_at x 0 (suc (o.more - 1))) e
+      ∙ ap (λ (c : Contract). c ∷ contracts_at (first ++ later) 40 (o.more - 1)) (contract-before first later 0 (omega arith))
+      ∙ ap (λ (more : List Contract). contract_at first 0 ∷ more) (contracts-after first later 40 0 (o.more - 1) (omega arith))
 
-  ended : open_lines h keys (suc i) o.done (from-line b start count i) ≡ opened (opening_state h o.done)
-  unfolding open_lines
-  ended = rw none_left
+  pub lines-refused : (why : TableReason) → a ≡ Err why → Err (refusal why (length lines + 1)) ≡ opened_as (open_lines h keys 1 [] cs)
+  unfolding opened_as
+  lines-refused why q = rw (add-one (length lines)) (ap opened_as (sym stop ∙ o.onward))
+    where
+      stop : open_lines h keys (suc (length lines)) lines (contracts_at rest 0 o.more) ≡ refused why (suc (length lines))
+      stop = unfold open_lines in rw (next, sym ea ∙ q)
 
-  handed_back : handed h lines count ≡ opened_as (opened (opening_state h o.done))
-  unfolding opened_as opening_state
-  handed_back = λ j. handed h (o.written j) ((sym e ∙ sym o.size) j)
+  pub lines_turn : (l : Line) → a ≡ Ok l → Opening-lines h keys cs count (lines ++ (l ∷ [])) later
+  lines_turn l q =
+      record {
+        more = o.more - 1;
+        so_far = rw after (omega (arith, o.so_far, one-less));
+        size = omega (arith, o.size, ap length e, length-append first later);
+        onward = ap (λ (n : ℕ). open_lines h keys (suc n) (lines ++ (l ∷ [])) (contracts_at later 0 (o.more - 1))) after ∙ sym on ∙ o.onward;
+      }
+    where
+      after : length (lines ++ (l ∷ [])) ≡ suc (length lines)
+      after = length-append lines (l ∷ []) ∙ omega arith
 
-  pub lines_all : handed h lines count ≡ opened_as (open_lines h keys 1 [] (contracts_at b start count))
-  lines_all = handed_back ∙ ap opened_as (sym ended ∙ o.rest)
+      on : open_lines h keys (suc (length lines)) lines (contracts_at rest 0 o.more)
+          ≡ open_lines h keys (suc (suc (length lines))) (lines ++ (l ∷ [])) (contracts_at later 0 (o.more - 1))
+      on = unfold open_lines in rw (next, sym ea ∙ q)
+
+-- every line is opened
+pub lines_all : (h : Header) (keys : List Key) (cs : List Contract) (count : ℕ) (lines : List Line) (rest : List ℕ)
+    → Opening-lines h keys cs count lines rest → length rest < 40 → opened (opening_state h lines) ≡ open_lines h keys 1 [] cs
+unfolding contracts_at open_lines
+lines_all h keys cs count lines rest o g =
+    ap (λ (m : ℕ). open_lines h keys (suc (length lines)) lines (contracts_at rest 0 m)) (sym none) ∙ o.onward
+  where
+    none : o.more ≡ 0
+    none = omega (arith, o.size)
+
+-- ---- a contract's answer r with its line n, made of its answer a
+module _ (P : TableReason → TableRefusal → Type 0) (a : LineAnswer) (r : Result Line TableRefusal)
+    (m : MatchResult a (λ (l : Line). r ≡ Ok l) (λ (why : TableReason). IsErrAnd r (P why))) where
+  pub line_opened : (l : Line) → r ≡ Ok l → a ≡ Ok l
+  line_opened l e = go a m
+    where
+      go : (a : LineAnswer) → MatchResult a (λ (l : Line). r ≡ Ok l) (λ (why : TableReason). IsErrAnd r (P why)) → a ≡ Ok l
+      go (Ok k) m = ap Ok (let z : ◌≡◌ {A = Result Line TableRefusal} (Ok k) (Ok l) = sym m ∙ e in cc)
+      go (Err why) m = absurd (rw e at m)
+
+  pub line_refused : (n : ℕ) → ((why : TableReason) (w : TableRefusal) → P why w → w ≡ refusal why n) → (w : TableRefusal) → r ≡ Err w
+      → (why : TableReason) × (a ≡ Err why) × (w ≡ refusal why n)
+  line_refused n told w e = go a m
+    where
+      go : (a : LineAnswer) → MatchResult a (λ (l : Line). r ≡ Ok l) (λ (why : TableReason). IsErrAnd r (P why))
+          → (why : TableReason) × (a ≡ Err why) × (w ≡ refusal why n)
+      go (Ok l) m = let z : ◌≡◌ {A = Result Line TableRefusal} (Ok l) (Err w) = sym m ∙ e in absurd (cc)
+      go (Err why) m = (why, refl, told why w (rw e at m))

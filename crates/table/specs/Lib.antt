@@ -1,3 +1,3 @@
 pub mod Names
-pub mod TableReply
+pub mod Opened
 pub mod Asks

@@ -1,8 +1,6 @@
 -- The data of `numbers` and `method` that this crate names.
-pub use Rattle.numbers.specs.declared.Steps.{Steps}
 pub use Rattle.numbers.specs.declared.Millionths.{Millionths}
 pub use Rattle.numbers.specs.declared.Seconds.{Seconds}
-pub use Rattle.numbers.specs.declared.Billionths.{Billionths}
 pub use Rattle.method.specs.declared.Header.{Header}
 pub use Rattle.method.specs.declared.Key.{Key}
 pub use Rattle.method.specs.declared.Contract.{Contract}
@@ -10,7 +8,5 @@ pub use Rattle.method.specs.declared.Field.{Field}
 pub use Rattle.method.specs.declared.Terms.{Terms}
 pub use Rattle.method.specs.declared.Market.{Market}
 pub use Rattle.method.specs.declared.Line.{Line}
-pub use Rattle.method.specs.declared.FieldsAnswer.{FieldsAnswer}
-pub use Rattle.method.specs.declared.LineAnswer.{LineAnswer}
-pub use Rattle.method.specs.declared.TableAnswer.{TableAnswer}
 pub use Rattle.method.specs.declared.TableReason.{TableReason}
+pub use Rattle.method.specs.declared.TableRefusal.{TableRefusal}

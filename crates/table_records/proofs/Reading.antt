@@ -91,6 +91,11 @@ module _ (xs ys : List ℕ) where
   contracts-after j at zero e = refl
   contracts-after j at (suc n) e = rw (contract-after j at e, contracts-after (j + 40) (at + 40) n (omega arith))
 
+pub keys_length : (b : List ℕ) (at n : ℕ) → length (keys_at b at n) ≡ n
+unfolding keys_at
+keys_length b at zero = refl
+keys_length b at (suc n) = ap suc (keys_length b (at + 8) n)
+
 -- ---- the keys so far, and those in the bytes that are left
 pub record Taken (b : List ℕ) (n : ℕ) (keys : List Key) (rest : List ℕ) : Type 0 where
   pub more : ℕ

@@ -1,20 +1,20 @@
--- What each turn of `table::id_good` finds.
-use Rattle.std.proofs.Common.{◌≡◌, length, arith}
-use Rattle.numbers.proofs.Arrays.{full}
-use Rattle.table.proofs.Ids.{unmet_turn, unmet_met, unmet_all}
+-- The search goes over the ids of the lines.
+use Rattle.std.proofs.Common.{◌≡◌, eqb, rules, ◌∙◌, arith}
+use Rattle.std.proofs.lemmas.Iterator.{YieldsList-from_slice}
+use Rattle.std.proofs.lemmas.Iterator.Search.{any_from_yields_List}
+use borrow.Author.Tests.{tests, lt-ltb}
+use Rattle.method.specs.told.Questions.{listed}
+use Rattle.method.specs.computed.Opening.{id_good, ids}
+use Rattle.table.specs.Names.{Line}
+use Rattle.table.proofs.Ids.{any-listed}
 use Rattle.table.proofs.id_good.Goals as goal
 
-pub returns-then-t-id : goal.returns-then-t-id
-returns-then-t-id c =
-    let len : length c.args.lines ≡ 32 = search (full, c.well_formed) in
-    unmet_met c.args.count c.args.lines c.args.id c.loop-place.place c.loop-place.invariant.1 (omega arith) (omega arith) c.if-t-id.true
-
-pub loop-place-preserved : goal.loop-place-preserved
-loop-place-preserved c =
-    let len : length c.args.lines ≡ 32 = search (full, c.well_formed) in
-    (omega arith, unmet_turn c.args.count c.args.lines c.args.id c.loop-place.place c.loop-place.invariant.1 (omega arith) (omega arith) c.if-t-id.false)
-
-pub returns : goal.returns
-returns c =
-    let len : length c.args.lines ≡ 32 = search (full, c.well_formed) in
-    unmet_all c.args.count c.args.lines c.args.id c.loop-place.place c.loop-place.invariant.1 (omega arith) (omega arith) (omega (arith, c.if-id-eq0.false))
+pub returns-then-id-ne0 : goal.returns-then-id-ne0
+unfolding id_good
+returns-then-id-ne0 c =
+    let e : c.any.result ≡ listed c.args.id (ids c.args.lines.now) =
+    any_from_yields_List (λ (l : Line). eqb l.terms.id c.args.id) _ _ c.any.result c.any.ensures.ran
+    (YieldsList-from_slice c.args.lines.now c.iter.ensures.rest) (λ x b q k. search (rules, tests))
+    ∙ any-listed c.args.id c.args.lines.now
+    in
+    rw (e, lt-ltb 0 c.args.id (omega arith))
