@@ -43,7 +43,8 @@ fn sooner(best: Option<Due>, d: Option<Due>) -> Option<Due>
     }
 }
 
-// One more line passed.
+// One more line passed. The ranges of holds and of the wait are asked here and not kept by their types: a session lies in a host's memory, where
+// any number may stand.
 #[tactic(auto, unfolding(method::specs::computed::Search::passed))]
 pub fn passed(wait: Seconds, place: usize, h: Holds, best: Option<Due>) -> Option<Due>
     requires { HoldsIn h × (wait.0 ≤ longest_hold) }

@@ -65,7 +65,8 @@ fn judged(now: Seconds, pressed: bool, h: Hold) -> Hold
     if pressed { h.or(Some(now)) } else { None }
 }
 
-// Both holds, over all that they hang on. Where no shift is left no hold exists, and no price is looked at.
+// Both holds, over all that they hang on. Where no shift is left no hold exists, and no price is looked at. Share, shifts left and second come from
+// different places (of a shift the shifts after it, of a quote its own time), and ranges from the session, so that no type binds them.
 #[tactic(auto, unfolding(method::specs::computed::Judge::judge, method::specs::computed::Judge::judged))]
 pub fn judge(
     w: Watch,

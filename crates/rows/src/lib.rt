@@ -16,6 +16,7 @@ pub struct NoRoom {
     pub needed: usize,
 }
 
+// What `as` gives, under the name that the hosts' answers go by.
 #[tactic(auto, unfolding(method::specs::told::Refusals::event_number))]
 pub fn event_number(why: EventReason) -> i64
     ensures { result ≡ pos (event_number why) }
@@ -52,7 +53,8 @@ fn field_number(why: TableReason) -> i64
     }
 }
 
-// A row in six numbers: its kind, its values in the printed order and, of a refused event, its place; with 0 where nothing stands.
+// A row in six numbers: its kind, its values in the printed order and, of a refused event, its place; with 0 where nothing stands. Each kind has
+// values, so that no `as` gives its number, and a place has to fit, so that this is no `From`.
 #[tactic(auto, unfolding(method::specs::told::Rows::row_numbers))]
 pub fn row_numbers(row: Row) -> [i64; 6]
     requires { Fits row }
