@@ -1,4 +1,4 @@
--- Where the room is there, a chunk is answered and the closing rows are written. Assumes nothing.
+-- Where the room is there, the closing rows are written. Assumes nothing.
 use mathlib.Core.Path.{◌≡◌, ap, ◌∙◌}
 use mathlib.Core.List.{List, map}
 use Prim.Native.Nat.{ℕ, ◌*◌, ◌≤◌}
@@ -10,21 +10,10 @@ use Rattle.method.specs.told.Rows.{closing_row}
 use Rattle.rows.specs.Buffer.{written}
 use Rattle.rows.proofs.Buffer.{numbers-long}
 use Rattle.corridor.specs.declared.Session.{Session}
-use Rattle.feeding.specs.declared.Fed.{Fed}
 use Rattle.corridor.specs.View.{view, Valid}
 use Rattle.closing.specs.Closing.{closing_numbers, closed, closed_into}
-use Rattle.feeding.specs.Feeding.{feed_needs, fed}
 use Rattle.corridor.proofs.Views.{view-length}
-use Rattle.feeding.proofs.Chunks.{fed-is, told_fits}
-use Rattle.counting.specs.declared.Tally.{Tally}
-use Rattle.counting.specs.Counted.{number_in, counted, most_closing}
-
-pub counted_is : (s : Session) (b : List ℕ) (size : ℕ) {r : Fed} {n : ℕ} → feed_needs (length b) ≤ size → r ≡ fed s size b → n ≡ number_in r.answer
-    → ◌≡◌ {A = Tally} (record { count = n; session = r.session }) (counted s b)
-counted_is s b size fits e q = rw (q, e ∙ fed-is s size b fits)
-
-pub count_fits : (s : Session) (b : List ℕ) {r : Tally} → Valid s → r ≡ counted s b → r.count ≤ feed_needs (length b)
-count_fits s b v e = rw e (told_fits s b v)
+use Rattle.counting.specs.Counted.{number_in, most_closing}
 
 -- ---- the closing rows
 closing_long : (s : Session) → Valid s → length (closing_numbers s) ≡ 6 * s.count

@@ -6,52 +6,35 @@
 ghost use Rattle.std.specs.Prelude.{◌≡◌, ◌≤◌, length};
 ghost use Rattle.rows.specs.Buffer.{written};
 ghost use Rattle.corridor.specs.View.{Valid};
-ghost use Rattle.feeding.specs.Feeding.{feed_needs, told};
+ghost use Rattle.feeding.specs.Feeding.{feed_needs, told, left_by};
 ghost use Rattle.closing.specs.Closing.{closing_numbers};
-ghost use Rattle.counting.specs.Counted.{number_in, counted, most_closing};
+ghost use Rattle.counting.specs.Counted.{number_in, most_closing};
 
 use corridor::Session;
-use rows::RowsAnswer;
+use rows::NoRoom;
 
 // How many numbers there are, or would have to fit.
-pub fn number_in(answer: RowsAnswer) -> usize
+pub fn number_in(answer: Result<usize, NoRoom>) -> usize
     ensures { result ≡ number_in answer }
 {
-    match answer {
-        RowsAnswer::Written(n) => n,
-        RowsAnswer::NoRoom(n) => n,
-    }
+    answer.unwrap_or_else(|refused| refused.needed)
 }
 
-// How many numbers the answers to a chunk have, and the session that it leaves.
-#[derive(Clone, Copy)]
-pub struct Tally {
-    pub count: usize,
-    pub session: Session,
-}
-
-// A chunk's answers, for which the room is there.
-pub fn counted(s: Session, chunk: &[u8], numbers: &mut [i64]) -> Tally
-    requires { Valid s × (feed_needs (length chunk.now) ≤ length numbers.old) }
-    ensures value { result ≡ counted s chunk.now }
-    ensures numbers_after { numbers.new ≡ written numbers.old 0 (told s chunk.now) }
+// A chunk's answers, for which the room is there; the session becomes the one that the chunk leaves. The answer is how many numbers they have.
+pub fn counted(s: &mut Session, chunk: &[u8], numbers: &mut [i64]) -> usize
+    requires { Valid s.old × (feed_needs (length chunk.now) ≤ length numbers.old) }
+    ensures value { result ≡ length (told s.old chunk.now) }
+    ensures session_after { s.new ≡ left_by s.old chunk.now }
+    ensures numbers_after { numbers.new ≡ written numbers.old 0 (told s.old chunk.now) }
 {
-    let r = feeding::feed(s, chunk, numbers);
-    let answer = r.answer;
-    let count = number_in(answer);
-    let session = r.session;
-    Tally {
-        count: count,
-        session: session,
-    }
+    number_in(feeding::feed(s, chunk, numbers))
 }
 
 // The closing rows, for which the room is there; the answer is how many numbers they have.
-pub fn closed(s: Session, numbers: &mut [i64]) -> usize
-    requires { Valid s × (most_closing ≤ length numbers.old) }
-    ensures value { result ≡ length (closing_numbers s) }
-    ensures numbers_after { numbers.new ≡ written numbers.old 0 (closing_numbers s) }
+pub fn closed(s: &Session, numbers: &mut [i64]) -> usize
+    requires { Valid s.now × (most_closing ≤ length numbers.old) }
+    ensures value { result ≡ length (closing_numbers s.now) }
+    ensures numbers_after { numbers.new ≡ written numbers.old 0 (closing_numbers s.now) }
 {
-    let answer = closing::close(s, numbers);
-    number_in(answer)
+    number_in(closing::close(s, numbers))
 }
