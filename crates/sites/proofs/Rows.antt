@@ -7,7 +7,6 @@ use lib.IntN.{ℤ}
 use lib.ListN.{length}
 use Rattle.method.specs.declared.ShiftLine.{ShiftLine}
 use Rattle.method.specs.declared.Row.{Row}
-use Rattle.method.specs.declared.Row.TheVariants as Row
 use Rattle.method.specs.words.Sessions.{Answer, accepted, refused, joined}
 use Rattle.method.specs.told.Rows.{rows_of, rows_from, rows_of_all, row_numbers, numbers_of}
 use Rattle.rows.proofs.Buffer.{numbers-long}

@@ -13,14 +13,14 @@ use Rattle.method.specs.told.Program.{events_of}
 use Rattle.method.specs.computed.Search.{run, finally}
 use Rattle.method.proofs.Ticks.{alike_is_same}
 use Rattle.corridor.specs.declared.Session.{Session}
-use Rattle.feeding.specs.declared.Fed.{Fed}
+use Rattle.rows.specs.Answer.{RowsAnswer}
 use Rattle.corridor.specs.View.{view, put, Valid}
 use Rattle.feeding.specs.Feeding.{rows_for, told, left_by}
 use Rattle.feeding.specs.Chunks.{all_bytes, rows_in}
 use Rattle.corridor.specs.Engine.{one_by_one, left_after}
 use Rattle.corridor.proofs.Engine.{valid_proper, engine_runs, engine_is_right}
 use Rattle.corridor.proofs.Views.{view-put}
-use Rattle.feeding.proofs.Chunks.{fed-is, fed_into-is}
+use Rattle.feeding.proofs.Chunks.{fed_answer-is, fed_session-is, fed_into-is}
 use Rattle.feeding.proofs.Joined.{one-buffer, places_aside}
 use Rattle.sites.specs.Sites.{EventsAlike, only_shifts, FedWith, ToldBy, BuffersAlike, ChunksAsHanded, ChunksAlike}
 use Rattle.sites.proofs.Rows.{lines_in, lines-append, lines_still, only_shifts_of, only_shifts_are_lines}
@@ -52,19 +52,19 @@ module _ (s : Session) (b : List ℕ) (v : Valid s) where
   left_as_handed = sym (engine_runs s (events_of b) v).session
 
 -- ---- fed in one buffer
-module _ {s : Session} {b : List ℕ} {out : List ℤ} {r : Fed} {now : List ℤ} (f : FedWith s b out r now) where
+module _ {s : Session} {b : List ℕ} {out : List ℤ} {r : RowsAnswer} {x : Session} {now : List ℤ} (f : FedWith s b out r x now) where
   told_by : ToldBy r now (told s b)
   told_by =
       record {
-        counted = ap (λ (x : Fed). x.answer) (f.handed ∙ fed-is s (length out) b f.enough);
+        counted = f.answered ∙ fed_answer-is s (length out) b f.enough;
         written = ap (take (length (told s b))) (f.buffer ∙ fed_into-is s out b f.enough) ∙ take_at (told s b) _ _ refl;
       }
 
-  session_by : r.session ≡ left_by s b
-  session_by = ap (λ (x : Fed). x.session) (f.handed ∙ fed-is s (length out) b f.enough)
+  session_by : x ≡ left_by s b
+  session_by = f.left ∙ fed_session-is s (length out) b f.enough
 
 pub buffers_alike : BuffersAlike
-buffers_alike s b d v a out lent r q now then f g =
+buffers_alike s b d v a out lent r q x y now then f g =
     let h = events_alike s (events_of b) (events_of d) v a in
     record {
       one = told s b;

@@ -1,7 +1,7 @@
 -- Two sites (METHOD 26.7): from one session, the events of one and of the other are the same, less refused ones and less some that tell
 -- nothing new. Handed to `event`, fed in one buffer, or in chunk after chunk, they leave one session, and the same shift lines in the same
 -- order. The name in brackets is the theorem, in proofs/Sites.
-use Rattle.std.specs.Prelude.{◌≡◌, cond, List, [], ◌++◌, map, ℕ, zero, suc, ◌/◌, ◌≤◌, ℤ, pos, length, get_or, take, drop}
+use Rattle.std.specs.Prelude.{◌≡◌, cond, List, [], ◌++◌, map, ℕ, zero, suc, ◌/◌, ◌≤◌, ℤ, pos, length, get_or, take, drop, Ok}
 use Rattle.numbers.specs.Tests.{same}
 use Rattle.method.specs.declared.Row.TheVariants as Row
 use Rattle.method.specs.words.Sessions.{Answer, joined}
@@ -9,10 +9,9 @@ use Rattle.method.specs.laws.Ticks.{Alike}
 use Rattle.method.specs.told.Rows.{rows_of_all, numbers_of}
 use Rattle.method.specs.told.Program.{events_of}
 use Rattle.corridor.specs.declared.Session.{Session}
-use Rattle.rows.specs.declared.RowsAnswer.{RowsAnswer}
-use Rattle.feeding.specs.declared.Fed.{Fed}
+use Rattle.rows.specs.Answer.{RowsAnswer}
 use Rattle.corridor.specs.View.{view, Valid}
-use Rattle.feeding.specs.Feeding.{feed_needs, fed, fed_into}
+use Rattle.feeding.specs.Feeding.{feed_needs, fed_answer, fed_session, fed_into}
 use Rattle.feeding.specs.Chunks.{all_bytes, WholeButLast, told_in, left_in}
 use Rattle.corridor.specs.Engine.{one_by_one, left_after}
 
@@ -38,30 +37,32 @@ abbrev pub OnlyShiftsAreLines : Type 0
 OnlyShiftsAreLines = (rs : List Answer) → only_shifts (numbers_of (rows_of_all rs)) ≡ numbers_of (map Row.Shift (joined rs))
 
 -- ---- fed in one buffer
--- r is handed back by `feed` for the bytes b, with room for the rows, and `now` stands in the lent buffer then
-pub record FedWith (s : Session) (b : List ℕ) (out : List ℤ) (r : Fed) (now : List ℤ) : Type 0 where
+-- r is answered by `feed` for the bytes b, with room for the rows, x is the session then, and `now` stands in the lent buffer
+pub record FedWith (s : Session) (b : List ℕ) (out : List ℤ) (r : RowsAnswer) (x : Session) (now : List ℤ) : Type 0 where
   pub enough : feed_needs (length b) ≤ length out
-  pub handed : r ≡ fed s (length out) b
+  pub answered : r ≡ fed_answer s (length out) b
+  pub left : x ≡ fed_session s (length out) b
   pub buffer : now ≡ fed_into s out b
 
 -- ns is what is told: as many numbers as the answer says, from the front of the buffer
-pub record ToldBy (r : Fed) (now ns : List ℤ) : Type 0 where
-  pub counted : r.answer ≡ RowsAnswer.Written (length ns)
+pub record ToldBy (r : RowsAnswer) (now ns : List ℤ) : Type 0 where
+  pub counted : r ≡ Ok (length ns)
   pub written : take (length ns) now ≡ ns
 
-pub record FedAlike (r : Fed) (now : List ℤ) (q : Fed) (then : List ℤ) : Type 0 where
+pub record FedAlike (r : RowsAnswer) (x : Session) (now : List ℤ) (q : RowsAnswer) (y : Session) (then : List ℤ) : Type 0 where
   pub one : List ℤ
   pub other : List ℤ
   pub one_told : ToldBy r now one
   pub other_told : ToldBy q then other
   pub lines : only_shifts one ≡ only_shifts other
-  pub session : r.session ≡ q.session
+  pub session : x ≡ y
 
 -- (buffers_alike)
 abbrev pub BuffersAlike : Type 0
 BuffersAlike =
     (s : Session) (b d : List ℕ) → Valid s → Alike (view s) (events_of b) (events_of d)
-    → (out lent : List ℤ) (r q : Fed) (now then : List ℤ) → FedWith s b out r now → FedWith s d lent q then → FedAlike r now q then
+    → (out lent : List ℤ) (r q : RowsAnswer) (x y : Session) (now then : List ℤ) → FedWith s b out r x now → FedWith s d lent q y then
+    → FedAlike r x now q y then
 
 -- ---- fed in chunks, which are cut between two events; what is told for each is what `feed` writes for it where there is room
 -- It comes to what the same events come to that are handed to `event`: so a site that feeds and one that hands over hold one session too.

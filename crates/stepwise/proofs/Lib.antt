@@ -1,2 +1,1 @@
-pub mod Stepping
 pub mod Theorems

@@ -1,2 +1,1 @@
-pub mod ReplyRows
 pub mod Right
