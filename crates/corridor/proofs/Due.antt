@@ -21,24 +21,9 @@ use Rattle.corridor.specs.declared.Session.{Session}
 use Rattle.corridor.specs.View.{view, Ranged}
 use Rattle.corridor.proofs.Rows.{room_in}
 
--- ---- the loop: the rows from i on, with the best so far, give what all rows give
-abbrev pub Passed : Seconds → List Line → ℕ → Found → Type 0
-Passed wait rows i best = earliest wait i (drop i rows) best ≡ earliest wait 0 rows None
-
 -- what passing a row asks
 pub row_passes : {s : Session} (i : ℕ) → Ranged s → i < s.count → HoldsIn (get_or (view s).lines i blank).holds × (s.hold.0 ≤ longest_hold)
 row_passes i v h = room_passes v.sane.hold.most (room_in i v h)
-
-pub passed_turn : (wait : Seconds) (rows : List Line) (i : ℕ) (best more : Found) → i < length rows
-    → more ≡ passed wait i (get_or rows i blank).holds best → Passed wait rows i best → Passed wait rows (i + 1) more
-unfolding earliest
-passed_turn wait rows i best more h e p = rw (e, add-one) (rw (drop-cons rows i blank h) at p)
-
--- all rows passed
-pub passed_all : (wait : Seconds) (rows : List Line) (i : ℕ) (best : Found) → length rows ≤ i → Passed wait rows i best
-    → best ≡ earliest wait 0 rows None
-unfolding earliest
-passed_all wait rows i best h p = rw (drop_of_length-le rows h) at p
 
 -- ---- the hold that is found stands at a place of the table
 unfoldable Placed : ℕ → Found → Type 0

@@ -10,7 +10,8 @@ use Rattle.method.specs.computed.Sound.{Sound, Distinct}
 use Rattle.corridor.specs.Names.{Seconds, Line, TableRefusal}
 use Rattle.corridor.specs.declared.Session.{Session}
 
--- ---- the head, all that stands beside the lines, is written out in `view` and `with_head`, and nowhere else in this crate's definitions
+-- ---- the head, all that stands beside the lines, is written out in `view`, `with_head` and `no_session`, and nowhere else in this crate's
+-- definitions
 -- the first `count` rows, as the method's lines
 abbrev pub view : Session → State
 view s = record { lines = take s.count s.lines; clock = s.clock; end = s.end; hold = s.hold; left = s.left; near = s.near }

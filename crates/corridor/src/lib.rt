@@ -2,8 +2,12 @@
 
 #![tactic(auto)]
 
+ghost use Rattle.std.specs.Prelude.{◌≡◌};
+ghost use Rattle.method.specs.computed.Table.{opening};
+ghost use Rattle.corridor.specs.View.{opened_session};
+
 use arrayvec::ArrayVec;
-use method::{Line, ShiftLine};
+use method::{Line, ShiftLine, TableRefusal};
 use numbers::{Millionths, Seconds};
 
 pub mod event;
@@ -24,3 +28,22 @@ pub struct Session {
 
 // The shift lines of one event, in their order.
 pub type Shifts = ArrayVec<ShiftLine, 16>;
+
+// Opens a session from the bytes of a morning table.
+pub fn open(bytes: &[u8]) -> Result<Session, TableRefusal>
+    ensures { result ≡ opened_session (opening bytes.now) }
+{
+    let opened = table::open(bytes)?;
+    let count = opened.lines.len();
+    let mut lines = [Line::default(); 32];
+    lines[..count].copy_from_slice(&opened.lines);
+    Ok(Session {
+        lines,
+        count,
+        clock: Seconds(0),
+        end: opened.end,
+        hold: opened.hold,
+        left: opened.most,
+        near: opened.near,
+    })
+}

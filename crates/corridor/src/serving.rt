@@ -25,6 +25,7 @@ impl Session {
     }
 
     // The hold that goes first, where it is due at or before t.
+    #[tactic(auto, unfolding(method::specs::computed::Search::earliest, method::specs::computed::Search::next_due))]
     fn next_due(&self, t: Seconds) -> Option<Due>
         requires { Ranged self.now }
         ensures { result ≡ next_due t (view self.now) }
