@@ -10,7 +10,16 @@ use Rattle.corridor.specs.View.{view}
 
 -- what it has beside its lines
 abbrev pub BesideIn : Session → Type 0
-BesideIn s = Beside s.count s.clock s.end s.hold (most_left (view s)) s.near
+BesideIn s =
+    Beside
+    (record {
+      count = s.count;
+      clock = s.clock;
+      end = s.end;
+      hold = s.hold;
+      left = most_left (view s);
+      near = s.near;
+    })
 
 -- each line by itself
 abbrev pub LinesIn : Session → Type 0

@@ -81,13 +81,20 @@ fn floor(k: Limits, flags: u32) -> bool
     }
 }
 
+// The numbers are compared and not the steps, whose derived order is slower.
+fn between(low: Steps, high: Steps, z: Steps) -> bool
+    ensures { Decides result (Span low.0 high.0 z.0) }
+{
+    (low.0..=high.0).contains(&z.0)
+}
+
 // Both limits between the interest bounds, and in their order.
 fn limits(t: Terms, m: Market, k: Limits) -> bool
     requires { Drawn t.factors m }
     ensures { Decides result (LimitsRoom t m k) }
 {
-    (bounds::bound(Side::Down, t.factors, m)..=k.upper).contains(&k.lower)
-        && k.upper <= bounds::bound(Side::Up, t.factors, m)
+    between(bounds::bound(Side::Down, t.factors, m), k.upper, k.lower)
+        && between(k.lower, bounds::bound(Side::Up, t.factors, m), k.upper)
         && floor(k, t.flags)
 }
 

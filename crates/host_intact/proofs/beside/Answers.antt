@@ -8,4 +8,4 @@ use Rattle.host_intact.proofs.beside.Goals as goal
 
 pub returns : goal.returns
 unfolding most_left
-returns c = subst (λ (s : Session). Decides c.in_range.result (BesideIn s)) (sym c.head-h.ensures) c.in_range.ensures
+returns c = subst (λ (s : Session). Decides c.in_range.result (BesideIn s)) (sym c.head.ensures) c.in_range.ensures

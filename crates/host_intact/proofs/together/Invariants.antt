@@ -1,10 +1,14 @@
 -- `host_intact::together`: of the lines so far, the ids are gathered and the hold that falls due first is found.
+use Rattle.std.proofs.Common.{◌≡◌, map, length, take}
+use Rattle.method.specs.computed.Opening.{ids}
 use Rattle.corridor.proofs.Due.{Passed}
-use Rattle.corridor.proofs.Gathered.{Gathered}
-use Rattle.host_memory.specs.Memory.{session_in}
+use Rattle.host_row.specs.Packed.{line_in}
 use Rattle.host_intact.proofs.together.Given as goal
 
-abbrev pub invariant-loop-i : goal.invariant-loop-i
-invariant-loop-i l =
-    let s = session_in l.session in
-    record { best : Passed s.hold s.count s.lines l.i l.best; ids : Gathered s.lines l.i l.ids }
+abbrev pub invariant-loop-place : goal.invariant-loop-place
+invariant-loop-place l =
+    record {
+      best : Passed l.head.hold (map line_in l.pair-items) l.place l.best;
+      ids : l.ids.items ≡ ids (map line_in (take l.place l.pair-items));
+      long : length l.ids.items ≡ l.place;
+    }
