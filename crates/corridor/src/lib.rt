@@ -14,7 +14,8 @@ pub mod event;
 pub mod serving;
 
 // The table's lines stand in the first `count` places, in its order. `left` is how many shifts may still be made.
-// An array with its count, and no `ArrayVec` of lines: a session is read from a host's memory, where any number may stand.
+// An array with its count, and no `ArrayVec` and no invariant: a session is read from a host's memory, where any number may stand, so each
+// function asks that it is `Valid`.
 #[derive(Clone, Copy, Default)]
 pub struct Session {
     pub lines: [Line; 32],
