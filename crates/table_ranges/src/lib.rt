@@ -65,6 +65,7 @@ fn key_good(before: u32, k: Key) -> bool
 }
 
 // The line of the first bad key, from 1.
+#[tactic(auto, unfolding(method::specs::computed::Table::bad_key))]
 pub fn first_bad_key(keys: &[Key]) -> Option<u32>
     requires { length keys.now ≤ most_keys }
     ensures { result ≡ bad_key 1 0 keys.now }
@@ -127,6 +128,7 @@ const FIELDS: [Field; 9] = [
 ];
 
 // The fields from first to last, up to one that is not in its range (refusal 5).
+#[tactic(auto, unfolding(method::specs::computed::Opening::first_bad))]
 pub fn fields(c: Contract) -> Result<(), Field>
     ensures { result ≡ fields_answer c }
 {
