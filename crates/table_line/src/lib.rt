@@ -21,6 +21,9 @@ const WHOLE: i64 = method::WHOLE as i64;
 
 const TWICE_WHOLE: i64 = 2 * WHOLE;
 
+// That a contract is in its ranges, or a corridor can be worked out, stays a clause and no type of its own: docs/PROMISES.md promises `market`,
+// `terms` and `opened_with` of plain records.
+
 // The larger of |spot| and least price.
 #[tactic(auto, unfolding(method::specs::words::Opening::normal_price))]
 fn normal_price(c: Contract) -> Steps
