@@ -36,6 +36,7 @@ fn lines(session: &Memory) -> bool
 }
 
 // No id twice, and no hold that is due by the clock.
+#[tactic(auto, unfolding(method::specs::computed::Search::earliest))]
 fn together(session: &Memory) -> bool
     requires { BesideIn (session_in session.now) × LinesIn (session_in session.now) }
     ensures { Decides result (Distinct (session_ids (view (session_in session.now)))
