@@ -9,8 +9,7 @@ use mir.Syntax.{w64}
 use mir.Val.{SFits, to_z, of_z}
 use mir.Facts.{to_z-of_z}
 use Rattle.numbers.proofs.Halves.{zarith, sub_is}
-use Rattle.numbers.proofs.Machine.{cast_back}
-use Rattle.numbers.proofs.Rounded.{less_fits}
+use Rattle.numbers.proofs.Machine.{cast_back, less_fits}
 use Rattle.host_row.specs.Packed.{signed_in}
 
 -- ---- a signed number that is read
