@@ -6,7 +6,7 @@ use mathlib.Core.List.{List}
 use Prim.Native.Nat.{ℕ, ◌-◌, ◌≤◌}
 use native.Mathlib.Omega.{arith}
 use Rattle.numbers.proofs.Tests.{false-le, never_both}
-use Rattle.method.specs.words.Types.{Line, ShiftLine, State, EventAnswer, steps, session_ids}
+use Rattle.method.specs.words.Types.{Line, ShiftLine, State, steps, session_ids}
 use Rattle.method.specs.words.Wire.{word, signed}
 use Rattle.method.specs.words.Ranges.{Every}
 use Rattle.method.specs.words.Tables.{opened}

@@ -8,7 +8,7 @@ use native.Mathlib.Omega.{arith}
 use lib.Dec.{eqb}
 use lib.IntN.{ℤ}
 use borrow.Author.Tests.{eqb-true, eqb-false}
-use Rattle.method.specs.words.Types.{Millionths, Key, Contract, Line, ShiftLine, State, EventAnswer, seconds}
+use Rattle.method.specs.words.Types.{Millionths, Key, Contract, Line, ShiftLine, State, seconds}
 use Rattle.method.specs.words.Wire.{word, signed, bit}
 use Rattle.method.specs.words.Ranges.{Every}
 use Rattle.method.specs.words.Opening.{terms_of, fresh_line}

@@ -5,7 +5,7 @@ use mathlib.Core.Path.{◌≡◌, sym, ◌∙◌}
 use mathlib.Core.List.{List, ◌++◌}
 use Prim.Native.Nat.{◌≤◌}
 use native.Mathlib.Omega.{arith}
-use Rattle.method.specs.words.Types.{ShiftLine, State, EventAnswer}
+use Rattle.method.specs.words.Types.{ShiftLine, State}
 use Rattle.method.specs.words.Sessions.{accepted}
 use Rattle.method.specs.computed.Types.{ReadEvent}
 use Rattle.method.specs.computed.Shift.{after}

@@ -7,7 +7,7 @@ use Prim.Native.Nat.{ℕ, ◌-◌}
 use lib.Dec.{eqb}
 use lib.IntN.{ℤ}
 use borrow.Author.Tests.{eqb-true}
-use Rattle.method.specs.words.Types.{Millionths, Price, Book, Line, ShiftLine, State, EventAnswer}
+use Rattle.method.specs.words.Types.{Millionths, Price, Book, Line, ShiftLine, State}
 use Rattle.method.specs.words.Ranges.{Every}
 use Rattle.method.specs.words.Books.{PriceSaid, BookSaid}
 use Rattle.method.specs.laws.Ticks.{NothingNew, tick, repeat}

@@ -3,7 +3,7 @@ use Rattle.std.specs.Prelude.{Ok, Err}
 use mathlib.Core.Path.{◌≡◌}
 use Prim.Native.Nat.{suc, ◌-◌, ◌≤◌, ◌<◌}
 use native.Mathlib.Omega.{arith}
-use Rattle.method.specs.words.Types.{Side, Seconds, State, EventAnswer}
+use Rattle.method.specs.words.Types.{Side, Seconds, State}
 use Rattle.method.specs.words.Ranges.{longest_session}
 use Rattle.method.specs.computed.Types.{ReadEvent, Tick, Quoted}
 use Rattle.method.specs.computed.Head.{most_left}

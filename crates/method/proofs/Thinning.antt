@@ -4,7 +4,7 @@ use Rattle.std.specs.Prelude.{Ok}
 use mathlib.Core.Path.{◌≡◌, refl, sym, ap, ◌∙◌, subst}
 use mathlib.Core.List.{List, [], ◌∷◌, ◌++◌, append_assoc}
 use Prim.Native.Nat.{ℕ, ◌≤◌}
-use Rattle.method.specs.words.Types.{ShiftLine, State, EventAnswer}
+use Rattle.method.specs.words.Types.{ShiftLine, State}
 use Rattle.method.specs.words.Ranges.{Every}
 use Rattle.method.specs.words.Events.{EventAnswered}
 use Rattle.method.specs.words.Sessions.{Answer, accepted, refused, joined, Follows, AnswersInWords, no_more, taken, turned_away}

@@ -1,6 +1,6 @@
 -- The moments of a session, over the computed state steps.
 use Rattle.std.specs.Prelude.{List, [], ◌∷◌, ◌++◌, ◌≡◌, ℕ, Ok}
-use Rattle.method.specs.words.Types.{Seconds, ShiftLine, EventAnswer, State}
+use Rattle.method.specs.words.Types.{Seconds, ShiftLine, State}
 use Rattle.method.specs.words.Holds.{First}
 use Rattle.method.specs.computed.Shift.{onward}
 use Rattle.method.specs.computed.Event.{read, verdict, applied}

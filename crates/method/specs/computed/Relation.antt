@@ -1,6 +1,6 @@
 -- Which answers are right, over the computed state steps: the relation that the proofs and the crates above work with. It is the words' (`SameAnswers`).
 use Rattle.std.specs.Prelude.{List, [], ◌∷◌, ◌≡◌, ℕ, Ok, Err}
-use Rattle.method.specs.words.Types.{Seconds, ShiftLine, EventAnswer, seconds, State}
+use Rattle.method.specs.words.Types.{Seconds, ShiftLine, seconds, State}
 use Rattle.method.specs.words.Holds.{First, Done}
 use Rattle.method.specs.words.Sessions.{Answer, accepted, refused}
 use Rattle.method.specs.computed.Types.{ReadEvent, Tick, Quoted}

@@ -1,5 +1,5 @@
 -- A table opened, or refused with its line, test by test in the order of METHOD 11. Every list of bytes has an answer.
-use Rattle.std.specs.Prelude.{cond, Bool, ◌&&◌, List, [], ◌∷◌, ◌++◌, ℕ, ◌+◌, suc, ltb, leb, eqb, length, Ok, Err, Option, None, Some}
+use Rattle.std.specs.Prelude.{cond, Bool, ◌&&◌, List, [], ◌∷◌, ◌++◌, ℕ, suc, ltb, leb, eqb, length, Ok, Err, Option, None, Some}
 use Rattle.numbers.specs.Tests.{in_range}
 use Rattle.method.specs.words.Types.{Header, Key, Contract, Line, TableReason}
 use Rattle.method.specs.words.Layout.{header_of, contracts_start, table_length, keys_at, contracts_at}

@@ -1,7 +1,7 @@
 -- The types that the code goes by on its way to an answer: which sides are watched, what a byte string says, the hold that is found, a contract's
 -- answer. The records are as src/lib.rt declares them.
 use Rattle.std.specs.Prelude.{Option, Result}
-use Rattle.method.specs.words.Types.{Key, Line, Due, Field, TableReason, EventReason, millionths}
+use Rattle.method.specs.words.Types.{Line, Due, Field, TableReason, EventReason}
 pub use Rattle.method.specs.declared.Watch.{Watch}
 pub use Rattle.method.specs.declared.Quote.{Quote}
 pub use Rattle.method.specs.declared.Event.{Event}
@@ -20,7 +20,3 @@ FieldsAnswer = Result (Unit {0}) Field
 
 abbrev pub LineAnswer : Type 0
 LineAnswer = Result Line TableReason
-
--- what is read past the last key
-abbrev pub no_key : Key
-no_key = record { days = 0; rate = millionths 0 }

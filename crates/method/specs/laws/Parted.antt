@@ -3,7 +3,7 @@
 -- each had one refusal. Words and statements, and no proof; the name in brackets is the theorem, in proofs/Parted.
 use Rattle.std.specs.Prelude.{Bool, true, false, List, ◌↔◌, ◌≡◌, ℕ, ◌≤◌, ◌<◌, ℤ, pos, length, ◌≤ℤ◌, Err}
 use Rattle.numbers.specs.Ranges.{Within, Between, Span}
-use Rattle.method.specs.words.Types.{Millionths, Key, Contract, Field, TableReason, EventReason, EventAnswer, State}
+use Rattle.method.specs.words.Types.{Millionths, Key, Contract, Field, TableReason, EventReason, State}
 use Rattle.method.specs.words.Wire.{word, signed, bit}
 use Rattle.method.specs.words.Ranges.{whole, most_days, largest_price, largest_quote, permits_negative}
 use Rattle.method.specs.words.Tables.{Fault}

@@ -1,6 +1,6 @@
 -- What stands beside rule 3: that it speaks of all of rule 2's states, what the floor does, and that it leaves one line. The name in brackets is
 -- the theorem, in proofs/Rule3.
-use Rattle.std.specs.Prelude.{true, List, ◌++◌, ◌↔◌, ◌≡◌, ℕ, ◌+◌}
+use Rattle.std.specs.Prelude.{true, List, ◌++◌, ◌↔◌, ◌≡◌, ℕ}
 use Rattle.method.specs.words.Types.{Line, ShiftLine, seconds, State}
 use Rattle.method.specs.words.Wire.{word}
 use Rattle.method.specs.words.Shifts.{Each}

@@ -1,5 +1,5 @@
 -- The stages of a session, one after each shift and one after each accepted event, and who called for a shift line along them.
-use Rattle.std.specs.Prelude.{true, List, [], ◌∷◌, ◌++◌, ◌⊎◌, ◌≡◌, ℕ, ◌+◌, ◌<◌, Some}
+use Rattle.std.specs.Prelude.{true, List, [], ◌∷◌, ◌++◌, ◌⊎◌, ◌≡◌, ℕ, ◌<◌, Some}
 use Rattle.method.specs.words.Types.{Seconds, Side, ShiftLine, seconds, State}
 use Rattle.method.specs.words.Wire.{word}
 use Rattle.method.specs.words.Ranges.{Every}

@@ -2,7 +2,7 @@
 -- later session. It follows from rule 2's definition and from which events are accepted. Words and statements, and no proof; the name in
 -- brackets is the theorem, in proofs/Ticks and proofs/Thinning.
 use Rattle.std.specs.Prelude.{List, [], ◌∷◌, ◌++◌, ◌≡◌, ℕ, ◌≤◌, Ok}
-use Rattle.method.specs.words.Types.{ShiftLine, EventAnswer, State}
+use Rattle.method.specs.words.Types.{ShiftLine, State}
 use Rattle.method.specs.words.Wire.{word}
 use Rattle.method.specs.words.Ranges.{Every}
 use Rattle.method.specs.words.Events.{IsTick, IsQuote, Unknown, EventAnswered}

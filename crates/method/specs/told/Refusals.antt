@@ -1,6 +1,6 @@
 -- The numbers of refusals (METHOD 23), and what each answer says in numbers: the refusal's number, or 0 where there is none, and the values of
 -- that kind of answer.
-use Rattle.std.specs.Prelude.{Bool, true, false, List, [], ◌∷◌, ◌++◌, ℕ, ℤ, pos, negsuc, Option, None, Some, Result, Ok, Err}
+use Rattle.std.specs.Prelude.{Bool, true, false, List, [], ◌∷◌, ◌++◌, ℕ, ℤ, pos, negsuc, None, Some, Result, Ok, Err}
 use Rattle.method.specs.words.Types.{Limits, Price, Field, TableReason, EventReason}
 use Rattle.method.specs.told.Types.{TableRefusal, LimitsAnswer, PlaceAnswer, Below, Inside, Above, BothBounds, HoldReport, Report, ReportAnswer}
 

@@ -2,7 +2,7 @@
 -- proofs file of the rule's name. That tables are accepted and shifts are made at all, so that no statement is empty, is in the figures
 -- (`starred_claim`, `examples_claim`).
 use Rattle.std.specs.Prelude.{List, [], ◌∷◌, ◌++◌, ◌↔◌, ◌≡◌, ℕ, ◌+◌, ◌≤◌, Ok, Err}
-use Rattle.method.specs.words.Types.{Seconds, Up, Down, Line, ShiftLine, TableReason, EventReason, EventAnswer, State}
+use Rattle.method.specs.words.Types.{Seconds, Up, Down, Line, ShiftLine, TableReason, EventReason, State}
 use Rattle.method.specs.words.Layout.{header_of}
 use Rattle.method.specs.words.Tables.{opened, refused, TableAnswered}
 use Rattle.method.specs.words.Events.{EventAnswered}

@@ -1,7 +1,7 @@
 -- A session in words, step by step and with nothing computed in them: what a shift and an event make of the whole state, and which answers a list
 -- of byte strings has, with the state that it leaves (METHOD 15, 16, 18, 19).
 use Rattle.std.specs.Prelude.{List, [], ◌∷◌, ◌++◌, ◌≡◌, ℕ, ◌+◌, Ok, Err}
-use Rattle.method.specs.words.Types.{Millionths, Seconds, Side, Line, ShiftLine, EventReason, EventAnswer, seconds, State}
+use Rattle.method.specs.words.Types.{Millionths, Seconds, Side, Line, ShiftLine, EventReason, seconds, State}
 use Rattle.method.specs.words.Wire.{word}
 use Rattle.method.specs.words.Events.{EventAnswered}
 use Rattle.method.specs.words.Pressure.{presses}
