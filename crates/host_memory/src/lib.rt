@@ -11,7 +11,7 @@ ghost use Rattle.host_memory.specs.Memory.{with_judged, session_of, session_in};
 
 use corridor::Session;
 use host_row::{Head, Pair, reading, writing};
-use method::{Book, Holds, Limits, Line};
+use method::{Holds, Line};
 use numbers::Seconds;
 use std::array;
 
@@ -87,7 +87,7 @@ pub fn kept(memory: &mut Memory, s: &Session)
     ensures { session_in memory.new ≡ s.now }
 {
     for (place, line) in s.lines.iter().enumerate() {
-        memory[place] = writing::rows(*line);
+        memory[place] = writing::rows(line);
     }
     let head = writing::head_row(Head {
         count: s.count,
@@ -102,19 +102,19 @@ pub fn kept(memory: &mut Memory, s: &Session)
 
 // The second row of a line's pair.
 #[tactic(auto, unfolding(host_row::specs::Packed::line_in))]
-fn judge(pair: &mut Pair, limits: Limits, book: Book, holds: Holds)
-    ensures { line_in pair.new ≡ with_judged (line_in pair.old) limits book holds }
+fn judge(pair: &mut Pair, l: &Line)
+    ensures { line_in pair.new ≡ with_judged (line_in pair.old) l.now.limits l.now.book l.now.holds }
 {
-    pair[1] = writing::judged_row(limits, book, holds);
+    pair[1] = writing::judged_row(l);
 }
 
 // Other limits, another book and other holds of a line: its second row alone, which is all that a quote changes.
-pub fn with_judged(memory: &mut Memory, place: usize, limits: Limits, book: Book, holds: Holds)
+pub fn with_judged(memory: &mut Memory, place: usize, l: &Line)
     requires { place < 32 }
     ensures { session_in memory.new ≡ with_line (session_in memory.old) place
-        (with_judged (get_or (session_in memory.old).lines place blank) limits book holds) }
+        (with_judged (get_or (session_in memory.old).lines place blank) l.now.limits l.now.book l.now.holds) }
 {
-    judge(&mut memory[place], limits, book, holds);
+    judge(&mut memory[place], l);
 }
 
 // The first row of the pair that the head stands in.

@@ -4,7 +4,7 @@ ghost use Rattle.std.specs.Prelude.{◌≡◌};
 ghost use Rattle.host_row.specs.Packed.{word_in, mark_in, signed_in, price_in, hold_in, terms_in, market_in, limits_in, book_in, holds_in, line_in, head_in};
 
 use crate::{Head, Pair, Row};
-use method::{Book, Hold, Holds, Limits, Line, Market, Price, Terms};
+use method::{Hold, Line, Price};
 use numbers::Steps;
 
 fn signed_number(z: Steps) -> u64
@@ -34,19 +34,19 @@ fn hold_numbers(h: Hold) -> (u64, u64)
 
 // A line's first row: what its bounds are drawn from.
 #[tactic(auto, unfolding(crate::specs::Packed::terms_in, crate::specs::Packed::market_in))]
-fn drawn_row(terms: Terms, market: Market) -> Row
-    ensures { (terms_in result ≡ terms) × (market_in result ≡ market) }
+fn drawn_row(l: &Line) -> Row
+    ensures { (terms_in result ≡ l.now.terms) × (market_in result ≡ l.now.market) }
 {
     [
-        u64::from(terms.id),
-        u64::from(terms.flags),
-        signed_number(terms.halfmove),
-        terms.factors.up.0,
-        terms.factors.down.0,
-        signed_number(market.centre),
-        signed_number(market.half1),
-        signed_number(market.half2),
-        signed_number(market.half3),
+        u64::from(l.terms.id),
+        u64::from(l.terms.flags),
+        signed_number(l.terms.halfmove),
+        l.terms.factors.up.0,
+        l.terms.factors.down.0,
+        signed_number(l.market.centre),
+        signed_number(l.market.half1),
+        signed_number(l.market.half2),
+        signed_number(l.market.half3),
         0,
         0,
         0,
@@ -59,17 +59,17 @@ fn drawn_row(terms: Terms, market: Market) -> Row
 
 // Its second row: what pressure is judged on.
 #[tactic(auto, unfolding(crate::specs::Packed::mark_in, crate::specs::Packed::limits_in, crate::specs::Packed::book_in, crate::specs::Packed::holds_in))]
-pub fn judged_row(limits: Limits, book: Book, holds: Holds) -> Row
-    ensures { (limits_in result ≡ limits) × (book_in result ≡ book) × (holds_in result ≡ holds) }
+pub fn judged_row(l: &Line) -> Row
+    ensures { (limits_in result ≡ l.now.limits) × (book_in result ≡ l.now.book) × (holds_in result ≡ l.now.holds) }
 {
-    let bid = price_numbers(book.bid);
-    let ask = price_numbers(book.ask);
-    let up = hold_numbers(holds.up);
-    let down = hold_numbers(holds.down);
+    let bid = price_numbers(l.book.bid);
+    let ask = price_numbers(l.book.ask);
+    let up = hold_numbers(l.holds.up);
+    let down = hold_numbers(l.holds.down);
     [
-        signed_number(limits.upper),
-        signed_number(limits.lower),
-        u64::from(limits.frozen),
+        signed_number(l.limits.upper),
+        signed_number(l.limits.lower),
+        u64::from(l.limits.frozen),
         bid.0,
         bid.1,
         ask.0,
@@ -88,13 +88,10 @@ pub fn judged_row(limits: Limits, book: Book, holds: Holds) -> Row
 
 // Two rows that have the line.
 #[tactic(auto, unfolding(crate::specs::Packed::line_in))]
-pub fn rows(l: Line) -> Pair
-    ensures { line_in result ≡ l }
+pub fn rows(l: &Line) -> Pair
+    ensures { line_in result ≡ l.now }
 {
-    [
-        drawn_row(l.terms, l.market),
-        judged_row(l.limits, l.book, l.holds),
-    ]
+    [drawn_row(l), judged_row(l)]
 }
 
 // A row that has the head.

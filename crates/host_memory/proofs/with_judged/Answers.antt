@@ -8,5 +8,6 @@ use Rattle.host_memory.proofs.with_judged.Goals as goal
 pub returns : goal.returns
 returns c =
     let pairs = c.args.memory.now in
+    let m = c.args.l.now in
     line_stored pairs c.args.place c.judge.new.pair _ c.requires
-    (c.judge.ensures ∙ ap (λ (l : Line). with_judged l c.args.limits c.args.book c.args.holds) (sym (line-is pairs c.args.place c.told-memory c.requires)))
+    (c.judge.ensures ∙ ap (λ (l : Line). with_judged l m.limits m.book m.holds) (sym (line-is pairs c.args.place c.told-memory c.requires)))
