@@ -1,5 +1,6 @@
 -- A whole session: a refused table's row, or the rows of its events and the closing rows behind them. Assumes nothing.
-use mathlib.Core.Path.{◌≡◌, refl, sym, ap, subst, ◌∙◌}
+use Rattle.std.specs.Prelude.{Ok, Err}
+use mathlib.Core.Path.{◌≡◌, refl, sym, ap, ◌∙◌}
 use mathlib.Core.List.{List, [], ◌++◌, map, append-nil}
 use Prim.Native.Nat.{ℕ, ◌+◌, ◌-◌, ◌≤◌, ◌<◌}
 use native.Mathlib.Omega.{arith}
@@ -8,7 +9,9 @@ use borrow.Author.Tests.{lt-ltb, le-ltb}
 use lib.IntN.{ℤ}
 use lib.ListN.{length, take, drop, length-append, length-drop, drop_of_length-le}
 use lib.Seq.{take_all}
+use Rattle.std.proofs.Common.{Ok, Err}
 use Rattle.method.specs.words.Types.{State}
+use Rattle.method.specs.declared.TableRefusal.{TableRefusal}
 use Rattle.method.specs.words.Tables.{Opening, opened, refused}
 use Rattle.method.specs.told.Rows.{rows_of_all, closing_row, row_numbers, numbers_of}
 use Rattle.method.specs.told.Program.{events_of}
@@ -16,27 +19,23 @@ use Rattle.method.specs.computed.Table.{opening}
 use Rattle.method.specs.computed.Search.{run, finally}
 use Rattle.method.specs.computed.Program.{session_rows, rows_after}
 use Rattle.method.specs.declared.Row.{Row}
-use Rattle.method.specs.declared.TableAnswer.{TableAnswer}
-use Rattle.method.specs.declared.TableReason.{TableReason}
 use Rattle.rows.specs.Buffer.{written}
 use Rattle.rows.proofs.Buffer.{written-long, written_on, written-rest, row_long, numbers-append, numbers-one}
 use Rattle.corridor.specs.declared.Session.{Session}
-use Rattle.corridor.specs.declared.OpenReply.{OpenReply}
-use Rattle.rows.specs.declared.RowsAnswer.{RowsAnswer}
-use Rattle.corridor.specs.View.{view, no_session, opened_session, Valid}
+use Rattle.rows.specs.Answer.{RowsAnswer, no_room}
+use Rattle.corridor.specs.View.{view, put, no_session, opened_session, Valid}
 use Rattle.feeding.specs.Feeding.{told, left_by}
 use Rattle.closing.specs.Closing.{closing_numbers}
 use Rattle.corridor.proofs.Views.{view-put}
 use Rattle.corridor.proofs.Theorems.{valid-opened}
 use Rattle.feeding.proofs.Chunks.{told_fits, valid-left}
-use Rattle.counting.specs.declared.Tally.{Tally}
-use Rattle.counting.specs.Counted.{counted, most_closing}
+use Rattle.counting.specs.Counted.{most_closing}
 use Rattle.counting.proofs.Answering.{closing_few}
 use Rattle.sundewcup.specs.Running.{run_needs, rows_told, ran, ran_into}
 
 -- ---- where the room is not there
 module _ (table events : List ℕ) (out : List ℤ) {k : ℕ} (e : k ≡ run_needs (length events)) (h : length out < k) where
-  pub none-ran : RowsAnswer.NoRoom k ≡ ran (length out) table events
+  pub none-ran : no_room k ≡ ran (length out) table events
   unfolding ran
   none-ran = rw (e, lt-ltb (length out) (run_needs (length events)) (omega arith)) refl
 
@@ -45,32 +44,26 @@ module _ (table events : List ℕ) (out : List ℤ) {k : ℕ} (e : k ≡ run_nee
   none_into = rw (lt-ltb (length out) (run_needs (length events)) (omega arith)) refl
 
 -- ---- the rows of a table's answer
-abbrev refusal_row : TableAnswer → List ℤ
-refusal_row TableAnswer.Opened = []
-refusal_row (TableAnswer.Refused why line) = row_numbers (Row.RefusedTable why line)
-
-abbrev IsOpened : TableAnswer → Type 0
-IsOpened TableAnswer.Opened = Unit {0}
-IsOpened (TableAnswer.Refused why line) = ⊥
-
-rows-refused : (x : Opening) (events : List (List ℕ)) (why : TableReason) (line : ℕ) → (opened_session x).answer ≡ TableAnswer.Refused why line
-    → numbers_of (rows_after x events) ≡ row_numbers (Row.RefusedTable why line)
+rows-refused : (x : Opening) (events : List (List ℕ)) (r : TableRefusal) → opened_session x ≡ Err r
+    → numbers_of (rows_after x events) ≡ row_numbers (Row.RefusedTable r.reason r.line)
 unfolding opened_session rows_after
-rows-refused (opened s) events why line said = absurd (subst IsOpened said tt)
-rows-refused (refused w l) events why line said = numbers-one (Row.RefusedTable w l) ∙ ap refusal_row said
+rows-refused (opened s) events r said = cc
+rows-refused (refused w l) events r said =
+    numbers-one (Row.RefusedTable w l) ∙ cc
 
-rows-opened : (x : Opening) (b : List ℕ) (z : Session) → (opened_session x).answer ≡ TableAnswer.Opened → z ≡ (opened_session x).session
+rows-opened : (x : Opening) (b : List ℕ) (z : Session) → opened_session x ≡ Ok z
     → numbers_of (rows_after x (events_of b)) ≡ told z b ++ closing_numbers (left_by z b)
 unfolding opened_session rows_after session_rows
-rows-opened (opened s) b z said e =
+rows-opened (opened s) b z said =
+    let e : z ≡ put no_session s = cc in
     numbers-append (rows_of_all (run s (events_of b))) (map closing_row (finally s (events_of b)).lines)
     ∙ ap (λ (x : State). numbers_of (rows_of_all (run x (events_of b))) ++ numbers_of (map closing_row (finally x (events_of b)).lines)) (sym (ap view e ∙ view-put no_session s))
     ∙ ap (λ (x : State). told z b ++ numbers_of (map closing_row x.lines)) (sym (view-put z (finally (view z) (events_of b))))
-rows-opened (refused why line) b z said e = absurd (subst IsOpened (sym said) tt)
+rows-opened (refused why line) b z said = cc
 
 -- ---- where it is: the rows are those of the method
 module _ (table events : List ℕ) (out : List ℤ) (enough : run_needs (length events) ≤ length out) where
-  all_ran : (n : ℕ) → n ≡ length (rows_told table events) → RowsAnswer.Written n ≡ ran (length out) table events
+  all_ran : (n : ℕ) → n ≡ length (rows_told table events) → ◌≡◌ {A = RowsAnswer} (Ok n) (ran (length out) table events)
   unfolding ran
   all_ran n e = rw (le-ltb (length out) (run_needs (length events)) enough, e) refl
 
@@ -79,26 +72,23 @@ module _ (table events : List ℕ) (out : List ℤ) (enough : run_needs (length 
   all_into now e = rw (le-ltb (length out) (run_needs (length events)) enough) e
 
   -- a refused table
-  module _ (o : OpenReply) (eo : o ≡ opened_session (opening table)) (why : TableReason) (line : ℕ) (said : o.answer ≡ TableAnswer.Refused why line) where
-    turned_away : rows_told table events ≡ row_numbers (Row.RefusedTable why line)
-    turned_away = rows-refused (opening table) (events_of events) why line (sym (ap (λ (z : OpenReply). z.answer) eo) ∙ said)
+  module _ (r : TableRefusal) (said : opened_session (opening table) ≡ Err r) where
+    turned_away : rows_told table events ≡ row_numbers (Row.RefusedTable r.reason r.line)
+    turned_away = rows-refused (opening table) (events_of events) r said
 
-    pub refused-ran : RowsAnswer.Written 6 ≡ ran (length out) table events
-    refused-ran = all_ran 6 (sym (ap length turned_away ∙ row_long (Row.RefusedTable why line)))
+    pub refused-ran : ◌≡◌ {A = RowsAnswer} (Ok 6) (ran (length out) table events)
+    refused-ran = all_ran 6 (sym (ap length turned_away ∙ row_long (Row.RefusedTable r.reason r.line)))
 
-    pub refused_into : {now : List ℤ} → now ≡ written out 0 (row_numbers (Row.RefusedTable why line)) → now ≡ ran_into out table events
+    pub refused_into : {now : List ℤ} → now ≡ written out 0 (row_numbers (Row.RefusedTable r.reason r.line)) → now ≡ ran_into out table events
     refused_into e = all_into _ (e ∙ ap (written out 0) (sym turned_away))
 
   -- an opened one
-  module _ (o : OpenReply) (eo : o ≡ opened_session (opening table)) (said : o.answer ≡ TableAnswer.Opened) where
-    abbrev first : Session
-    first = o.session
-
+  module _ (first : Session) (said : opened_session (opening table) ≡ Ok first) where
     abbrev last : Session
     last = left_by first events
 
     pub first-valid : Valid first
-    first-valid = valid-opened table eo said
+    first-valid = valid-opened table (sym said)
 
     pub last-valid : Valid last
     last-valid = valid-left first events first-valid
@@ -107,23 +97,14 @@ module _ (table events : List ℕ) (out : List ℤ) (enough : run_needs (length 
     closing = closing_numbers last
 
     rows_are : rows_told table events ≡ told first events ++ closing
-    rows_are = rows-opened (opening table) events first (sym (ap (λ (z : OpenReply). z.answer) eo) ∙ said) (ap (λ (z : OpenReply). z.session) eo)
+    rows_are = rows-opened (opening table) events first said
 
     fits : length (told first events) + length closing ≤ length out
     fits = omega (arith, told_fits first events first-valid, closing_few last last-valid)
 
-    module _ (a : Tally) (ea : a ≡ counted first events) {now : List ℤ} (en : now ≡ written out 0 (told first events)) where
-      abbrev at : ℕ
-      at = a.count
-
-      at-is : at ≡ length (told first events)
-      at-is = ap (λ (z : Tally). z.count) ea
-
+    module _ (at : ℕ) (at-is : at ≡ length (told first events)) {now : List ℤ} (en : now ≡ written out 0 (told first events)) where
       pub told-long : length now ≡ length out
       told-long = ap length en ∙ written-long out 0 (told first events) (omega (arith, fits))
-
-      pub told-last : Valid a.session
-      told-last = rw ea last-valid
 
       pub at-inside : at + most_closing ≤ length out
       at-inside = omega (arith, at-is, told_fits first events first-valid)
@@ -141,13 +122,8 @@ module _ (table events : List ℕ) (out : List ℤ) (enough : run_needs (length 
       none_after : drop (length now - at) (drop at now) ≡ []
       none_after = drop_of_length-le (drop at now) {i = length now - at} (omega (arith, length-drop at now))
 
-      closing_is : closing_numbers a.session ≡ closing
-      closing_is = ap (λ (z : Tally). closing_numbers z.session) ea
-
-      module _ {n : ℕ} (e : n ≡ length (closing_numbers a.session)) where
-        pub opened-ran : RowsAnswer.Written (at + n) ≡ ran (length out) table events
-        opened-ran =
-            all_ran (at + n) (omega (arith, at-is, ap length closing_is, ap length rows_are, length-append (told first events) closing))
+      pub opened-ran : (n : ℕ) → n ≡ length closing → ◌≡◌ {A = RowsAnswer} (Ok (at + n)) (ran (length out) table events)
+      opened-ran n e = all_ran (at + n) (omega (arith, at-is, ap length rows_are, length-append (told first events) closing))
 
       behind : written now at closing ≡ written out 0 (rows_told table events)
       behind =
@@ -155,9 +131,8 @@ module _ (table events : List ℕ) (out : List ℤ) (enough : run_needs (length 
           ∙ ap (λ (k : ℕ). written (written out 0 (told first events)) k closing) (at-is ∙ sym (zero-add (length (told first events))))
           ∙ written_on out 0 (told first events) (omega (arith, fits)) closing ∙ ap (written out 0) (sym rows_are)
 
-      pub opened_into : {ys : List ℤ} → ys ≡ written part 0 (closing_numbers a.session) → take at now ++ (ys ++ drop (length now - at) (drop at now)) ≡ ran_into out table events
+      pub opened_into : {ys : List ℤ} → ys ≡ written part 0 closing → take at now ++ (ys ++ drop (length now - at) (drop at now)) ≡ ran_into out table events
       opened_into {ys} e =
           all_into _
-          (ap (λ (zs : List ℤ). take at now ++ (ys ++ zs)) none_after
-          ∙ ap (λ (zs : List ℤ). take at now ++ zs) (append-nil ys ∙ e ∙ ap (written part 0) closing_is)
+          (ap (λ (zs : List ℤ). take at now ++ (ys ++ zs)) none_after ∙ ap (λ (zs : List ℤ). take at now ++ zs) (append-nil ys ∙ e)
           ∙ ap (λ (zs : List ℤ). take at now ++ written zs 0 closing) part_is ∙ written-rest now at closing ∙ behind)

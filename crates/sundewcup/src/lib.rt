@@ -7,36 +7,31 @@ ghost use Rattle.std.specs.Prelude.{◌≡◌, length};
 ghost use Rattle.counting.specs.Counted.{number_in};
 ghost use Rattle.sundewcup.specs.Running.{ran, ran_into};
 
-use method::{Row, TableAnswer};
-use rows::RowsAnswer;
+use method::Row;
+use rows::NoRoom;
 
 // A row for each shift that may be made, and for each contract that there may be.
 const MOST_ROWS: usize = (method::MOST_SHIFTS + method::MOST_CONTRACTS) as usize;
 
 // The rows of the whole: the shifts and the refused events in turn, and a closing row for each contract; or the one row of a refused
 // table. The room is worked out first: where it is not there, nothing is done.
-pub fn run(table: &[u8], events: &[u8], out: &mut [i64]) -> RowsAnswer
+pub fn run(table: &[u8], events: &[u8], out: &mut [i64]) -> Result<usize, NoRoom>
     ensures value { result ≡ ran (length out.old) table.now events.now }
     ensures out_after { out.new ≡ ran_into out.old table.now events.now }
 {
     let needed = rows::needed(events.len(), MOST_ROWS);
     if out.len() < needed {
-        return RowsAnswer::NoRoom(needed);
+        return Err(NoRoom { needed });
     }
-    let o = corridor::open(table);
-    let answer = o.answer;
-    match answer {
-        TableAnswer::Refused(why, line) => {
-            rows::write(out, 0, Row::RefusedTable(why, line));
-            RowsAnswer::Written(6)
+    match corridor::open(table) {
+        Err(refused) => {
+            rows::write(out, 0, Row::RefusedTable(refused.reason, refused.line));
+            Ok(6)
         }
-        TableAnswer::Opened => {
-            let session = o.session;
-            let a = counting::counted(session, events, out);
-            let at = a.count;
-            let last = a.session;
-            let more = counting::closed(last, &mut out[at..]);
-            RowsAnswer::Written(at + more)
+        Ok(mut session) => {
+            let told = counting::counted(&mut session, events, out);
+            let closing = counting::closed(&session, &mut out[told..]);
+            Ok(told + closing)
         }
     }
 }
