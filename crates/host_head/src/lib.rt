@@ -30,7 +30,7 @@ pub fn in_range(h: Head) -> bool
     h.count <= MOST_LINES
         && (1..=method::LONGEST_HOLD).contains(&h.hold.0)
         && h.end.0 <= method::LONGEST_SESSION
-        && h.clock.0 <= h.end.0
+        && h.clock <= h.end
         && h.left <= method::MOST_SHIFTS
         && (1..=method::LARGEST_NEAR_SHARE).contains(&h.near.0)
 }

@@ -75,9 +75,9 @@ fn floor(k: Limits, flags: u32) -> bool
     if wire::bit(0, flags) {
         !k.frozen
     } else if k.frozen {
-        k.lower.0 == 1
+        k.lower == Steps(1)
     } else {
-        1 <= k.lower.0
+        Steps(1) <= k.lower
     }
 }
 

@@ -86,6 +86,7 @@ pub fn taken(memory: &Memory) -> Session
 pub fn kept(memory: &mut Memory, s: &Session)
     ensures { session_in memory.new ≡ s.now }
 {
+    // By place: of what is written through `iter_mut().zip(..)` a proof knows nothing.
     for (place, line) in s.lines.iter().enumerate() {
         memory[place] = writing::rows(line);
     }

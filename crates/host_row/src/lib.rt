@@ -6,6 +6,7 @@
 
 use numbers::{Millionths, Seconds};
 
+// Functions and no `From`: neither a row nor a line is a type of this crate, so that only a head could have one.
 pub mod reading;
 pub mod writing;
 

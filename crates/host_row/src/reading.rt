@@ -22,6 +22,7 @@ fn mark(n: u64) -> bool
     0 < n
 }
 
+// 0, -1, 1, -2, 2 and so on, by turns, which the library does not have.
 #[tactic(auto, using(crate::proofs::Numbers::even_read, crate::proofs::Numbers::odd_read))]
 fn signed(n: u64) -> Steps
     ensures { result ≡ steps (signed_in n) }
@@ -34,6 +35,7 @@ fn signed(n: u64) -> Steps
     }
 }
 
+// A price and a hold are one call each of the library's generic function, so that a generic one of our own would be no plainer; so in writing.
 #[tactic(auto, unfolding(crate::specs::Packed::price_in))]
 fn price(there: u64, n: u64) -> Price
     ensures { result ≡ price_in there n }
