@@ -3,106 +3,82 @@
 
 #![tactic(auto)]
 
-ghost use Rattle.std.specs.Prelude.{◌≡◌, ◌≤◌, pos};
+ghost use Rattle.std.specs.Prelude.{◌≡◌, pos};
 ghost use Rattle.method.specs.words.Types.{steps};
-ghost use Rattle.method.specs.words.Ranges.{longest_hold};
 ghost use Rattle.method.specs.told.Refusals.{limits_said, report_said};
 ghost use Rattle.method.specs.told.Questions.{limits, place};
-ghost use Rattle.method.specs.told.Report.{line_report, report};
-ghost use Rattle.method.specs.computed.Rooms.{Room};
+ghost use Rattle.method.specs.told.Report.{report};
 ghost use Rattle.corridor.specs.View.{view, Valid};
-ghost use Rattle.questions.specs.Asked.{sought};
 ghost use Rattle.host_memory.specs.Memory.{session_in};
 ghost use Rattle.host_questions.specs.AskedNumbers.{told_into, place_number, report_into};
 
-use method::{EventReason, Line, PlaceAnswer, Report};
+use host_memory::Memory;
+use host_row::reading;
+use method::{Line, Place, Report};
 use numbers::Steps;
-use questions::Sought;
+use questions::Asked;
 
-// The line that has the id.
-fn found(session: &[[[u64; 16]; 2]; 33], id: u32) -> Sought
-    requires { Valid (session_in session.now) }
-    ensures { result ≡ sought id (view (session_in session.now)) }
-{
-    let h = host_memory::head(session);
-    let n = h.count;
-    let mut i: usize = 0;
-    while i < n {
-        let l = host_memory::line_at(session, i);
-        if l.terms.id == id {
-            return Sought::At(l);
-        }
-        i = i + 1;
+// A session that is asked where it lies, in memory that a host lends.
+#[derive(Clone, Copy)]
+struct Lent<'a>(&'a Memory);
+
+impl Asked for Lent<'_> {
+    ghost session = { λ lent. session_in lent.0.now };
+
+    fn sought(&self, id: u32) -> Option<Line> {
+        host_memory::lines(self.0)
+            .iter()
+            .map(reading::line)
+            .find(|l| l.terms.id == id)
     }
-    Sought::Nowhere
+
+    fn told(&self, l: Line) -> Report {
+        let h = host_memory::head(self.0);
+        line_answers::line_report(h.hold, h.left, h.clock, l)
+    }
 }
 
 // The lower and the upper limit, and whether the lower one is frozen.
-#[tactic(auto, unfolding(method::specs::told::Questions::limits, method::specs::told::Refusals::limits_said, method::specs::told::Refusals::event_number, questions::specs::Asked::sought))]
-pub fn limits(session: &[[[u64; 16]; 2]; 33], id: u32, out: &mut [i64; 3]) -> i64
+#[tactic(auto, using(crate::proofs::Told::told_into_refused), unfolding(method::specs::told::Refusals::limits_said))]
+pub fn limits(session: &Memory, id: u32, out: &mut [i64; 3]) -> i64
     requires { Valid (session_in session.now) }
     ensures number { result ≡ pos (limits_said (limits id (view (session_in session.now)))).number }
     ensures out_after { out.new ≡ told_into out.old (limits_said (limits id (view (session_in session.now)))) }
 {
-    match found(session, id) {
-        Sought::Nowhere => 13,
-        Sought::At(l) => {
-            let k = l.limits;
+    match questions::limits(&Lent(session), id) {
+        Ok(k) => {
             *out = [k.lower.0, k.upper.0, host_report::mark_number(k.frozen)];
             0
         }
-    }
-}
-
-fn place_number(answer: PlaceAnswer) -> i64
-    ensures { result ≡ place_number answer }
-{
-    match answer {
-        PlaceAnswer::Below => -1,
-        PlaceAnswer::Inside => 0,
-        PlaceAnswer::Above => 1,
-        PlaceAnswer::Refused(why) => rows::event_number(why),
+        Err(why) => rows::event_number(why),
     }
 }
 
 // Where an order price lies: below -1, inside 0, above 1; or the refusal's number.
-#[tactic(auto, unfolding(method::specs::told::Questions::place, questions::specs::Asked::sought))]
-pub fn place(session: &[[[u64; 16]; 2]; 33], id: u32, price: i64) -> i64
+pub fn place(session: &Memory, id: u32, price: i64) -> i64
     requires { Valid (session_in session.now) }
     ensures { result ≡ place_number (place id (steps price) (view (session_in session.now))) }
 {
-    match found(session, id) {
-        Sought::Nowhere => place_number(PlaceAnswer::Refused(EventReason::UnknownId)),
-        Sought::At(l) => {
-            let k = l.limits;
-            place_number(line_answers::placed(k, Steps(price)))
-        }
+    match questions::place(&Lent(session), id, Steps(price)) {
+        Ok(Place::Below) => -1,
+        Ok(Place::Inside) => 0,
+        Ok(Place::Above) => 1,
+        Err(why) => rows::event_number(why),
     }
 }
 
-// What stands on a line, with the hold seconds, the shifts left and the clock of its session.
-fn reported(session: &[[[u64; 16]; 2]; 33], l: Line) -> Report
-    requires { ((session_in session.now).hold.0 ≤ longest_hold) × Room (session_in session.now).left l }
-    ensures { result ≡ line_report (session_in session.now).hold (session_in session.now).left
-        (session_in session.now).clock l }
-{
-    let h = host_memory::head(session);
-    line_answers::line_report(h.hold, h.left, h.clock, l)
-}
-
 // All that stands on a line.
-#[tactic(auto, unfolding(method::specs::told::Report::report, method::specs::told::Refusals::report_said, method::specs::told::Refusals::event_number, questions::specs::Asked::sought))]
-pub fn report(session: &[[[u64; 16]; 2]; 33], id: u32, out: &mut [[i64; 6]; 4]) -> i64
+#[tactic(auto, unfolding(method::specs::told::Refusals::report_said))]
+pub fn report(session: &Memory, id: u32, out: &mut [[i64; 6]; 4]) -> i64
     requires { Valid (session_in session.now) }
     ensures number { result ≡ pos (report_said (report id (view (session_in session.now)))).number }
     ensures out_after { out.new ≡ report_into out.old (report id (view (session_in session.now))) }
 {
-    match found(session, id) {
-        Sought::Nowhere => 13,
-        Sought::At(l) => {
-            let r = reported(session, l);
+    match questions::report(&Lent(session), id) {
+        Ok(r) => {
             *out = host_report::report_rows(r);
             0
         }
+        Err(why) => rows::event_number(why),
     }
 }
