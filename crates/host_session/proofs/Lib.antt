@@ -1,2 +1,2 @@
 pub mod Replies
-pub mod Turns
+pub mod Walk

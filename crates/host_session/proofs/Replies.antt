@@ -1,36 +1,32 @@
--- Replies to one event: how many shift lines there are, and what a refusal leaves. Assumes nothing.
-use mathlib.Core.Path.{◌≡◌, refl, sym, subst}
-use mathlib.Core.List.{List, [], ◌∷◌}
-use Prim.Native.Nat.{ℕ, ◌≤◌}
+-- What is told of one event that is refused, and what it leaves. Assumes nothing.
+use Rattle.std.specs.Prelude.{Err, false}
+use Rattle.std.specs.Ordering.{is_le, nat_cmp}
+use Rattle.std.proofs.lemmas.Bool.Decides.{nat_tests}
+use mathlib.Core.Path.{◌≡◌, refl}
+use mathlib.Core.List.{List, []}
+use Prim.Native.Nat.{ℕ, ◌<◌}
 use native.Mathlib.Omega.{arith}
-use lib.ListN.{length, length-append}
-use Rattle.method.specs.words.Sessions.{Answer, accepted, refused, joined}
+use Rattle.method.specs.words.Sessions.{refused}
 use Rattle.method.specs.computed.Event.{read}
-use Rattle.method.specs.computed.Search.{answer, run}
-use Rattle.method.proofs.Answers.{run-right, answers_spend}
-use Rattle.method.specs.declared.Event.{Event}
+use Rattle.method.specs.computed.Search.{answer, served_by}
 use Rattle.corridor.specs.View.{view, Valid}
-use Rattle.corridor.specs.Reply.{reply_of}
-use Rattle.corridor.specs.Engine.{reply_to}
-use Rattle.host_session.specs.Names.{EventAnswer, EventReason, Session}
+use Rattle.corridor.specs.Reply.{shifts_told, left_of}
+use Rattle.corridor.specs.Engine.{reply_to, session_after}
+use Rattle.feeding.specs.Quiet.{quiet_until}
+use Rattle.feeding.proofs.Quiet.{quiet_first, quiet_serves}
+use Rattle.host_session.specs.Names.{Seconds, EventReason, Session}
 
-few-lines : (s : Session) (e : Event) (a : Answer) → length (joined (a ∷ [])) ≤ 16 → (reply_of s e a).made ≤ 16
-unfolding joined reply_of
-few-lines s e (accepted cs) h = omega (arith, length-append cs [])
-few-lines s e (refused why) h = omega arith
+-- ---- a refusal
+pub refused-told : (s : Session) (b : List ℕ) (why : EventReason) → answer (view s) (read b) ≡ refused why → Err why ≡ reply_to s b
+unfolding shifts_told
+refused-told s b why e = rw e refl
 
-pub made-few : (s : Session) (b : List ℕ) → Valid s → (reply_to s b).made ≤ 16
-unfolding run
-made-few s b v =
-    let a : Answer = answer (view s) (read b) in
-    few-lines s (read b) a (omega (arith, answers_spend (view s) (b ∷ []) (a ∷ []) v.sound (run-right (view s) (b ∷ []) v.sound), v.sane.left))
+-- it leaves the session as it was
+pub refused-stays : (s : Session) (b : List ℕ) (why : EventReason) → answer (view s) (read b) ≡ refused why → s ≡ session_after s b
+unfolding left_of
+refused-stays s b why e = rw e refl
 
-abbrev IsRefused : EventAnswer → Type 0
-IsRefused EventAnswer.Accepted = ⊥
-IsRefused (EventAnswer.Refused why) = Unit {0}
-
--- a refusal leaves the session as it was
-pub refused-stays : (s : Session) (e : Event) (a : Answer) (why : EventReason) → (reply_of s e a).answer ≡ EventAnswer.Refused why → (reply_of s e a).session ≡ s
-unfolding reply_of
-refused-stays s e (accepted cs) why h = absurd (subst IsRefused (sym h) tt)
-refused-stays s e (refused w) why h = refl
+-- ---- before the quiet second nothing is due
+pub nothing-due : (s : Session) (t q : Seconds) → Valid s → q ≡ quiet_until (view s) → false ≡ is_le (nat_cmp q.0 t.0) → served_by t (view s) ≡ []
+nothing-due s t q v e h =
+    let before : t.0 < q.0 = grind (arith, nat_tests) in quiet_serves (quiet_until (view s)) t (view s) v.sound.exact (quiet_first (view s)) (rw e at before)

@@ -2,196 +2,168 @@
 
 #![tactic(auto)]
 
-ghost use Rattle.std.specs.Prelude.{◌≡◌, pos, ◌<◌, length, get_or};
+ghost use Rattle.std.specs.Prelude.{◌≡◌, pos, ◌<◌, length, get_or, OnErr};
 ghost use Rattle.method.specs.words.Types.{blank, session_ids};
-ghost use Rattle.method.specs.told.Refusals.{table_said, event_said};
+ghost use Rattle.method.specs.told.Refusals.{table_said};
 ghost use Rattle.method.specs.computed.Table.{opening};
-ghost use Rattle.method.specs.computed.Event.{with_book, quoted_line};
+ghost use Rattle.method.specs.computed.Event.{read, with_book, quoted_line};
 ghost use Rattle.pressure.specs.Asks.{JudgeableLine};
 ghost use Rattle.verdict.specs.Decided.{decided};
 ghost use Rattle.rows.specs.Buffer.{written};
-ghost use Rattle.corridor.specs.View.{view, with_line, Valid, opened_session};
+ghost use Rattle.corridor.specs.View.{view, with_line, Valid, opened_session, left_by_open};
+ghost use Rattle.corridor.specs.Applied.{applied_to, Applies};
+ghost use Rattle.corridor.specs.Engine.{session_after};
 ghost use Rattle.feeding.specs.Quiet.{quiet_until};
-ghost use Rattle.feeding.specs.Feeding.{fed, fed_into};
+ghost use Rattle.feeding.specs.Feeding.{fed_answer, fed_session, fed_into};
 ghost use Rattle.closing.specs.Closing.{closed, closed_into};
 ghost use Rattle.counting.specs.Counted.{number_in};
 ghost use Rattle.host_memory.specs.Memory.{session_in};
-ghost use Rattle.host_session.specs.Answers.{line_said, field_said, reply_in, shift_rows, Leaves};
+ghost use Rattle.host_session.specs.Answers.{line_said, field_said, reply_in, made_in, shift_rows};
 
-use method::{Event, EventAnswer, Quote, Row, TableAnswer};
+use arrayvec::ArrayVec;
+use host_memory::Memory;
+use method::{EventReason, Quote, Row};
 use numbers::Seconds;
-use verdict::{Change, Verdict};
+use verdict::Taken;
 
 // Opens a session. After a refused table the memory holds none: what it reads as is then not `Valid`.
 #[tactic(auto, unfolding(method::specs::told::Refusals::table_said, method::specs::told::Rows::row_numbers))]
-pub fn open(
-    session: &mut [[[u64; 16]; 2]; 33],
-    table: &[u8],
-    line: &mut i64,
-    field: &mut i64,
-) -> i64
-    ensures number { result ≡ pos (table_said (opened_session (opening table.now)).answer).number }
-    ensures line_after { line.new ≡ line_said (opened_session (opening table.now)).answer }
-    ensures field_after { field.new ≡ field_said (opened_session (opening table.now)).answer }
-    ensures session_after { session_in session.new ≡ (opened_session (opening table.now)).session }
+pub fn open(session: &mut Memory, table: &[u8], line: &mut i64, field: &mut i64) -> i64
+    ensures number { result ≡ pos (table_said (opened_session (opening table.now))).number }
+    ensures line_after { line.new ≡ line_said (opened_session (opening table.now)) }
+    ensures field_after { field.new ≡ field_said (opened_session (opening table.now)) }
+    ensures session_after { session_in session.new ≡ left_by_open (opening table.now) }
 {
-    let o = corridor::open(table);
-    let s = o.session;
-    host_memory::kept(session, s);
-    let answer = o.answer;
-    match answer {
-        TableAnswer::Opened => {
+    let opened = corridor::open(table);
+    host_memory::kept(session, &opened.unwrap_or_default());
+    match opened {
+        Ok(_) => {
             *line = 0;
             *field = 0;
             0
         }
-        TableAnswer::Refused(why, at) => {
-            let row = rows::row_numbers(Row::RefusedTable(why, at));
-            *line = row[2];
-            *field = row[3];
-            row[1]
+        Err(refusal) => {
+            let row = Row::RefusedTable(refusal.reason, refusal.line);
+            let [_, number, at, place, _, _] = rows::row_numbers(row);
+            *line = at;
+            *field = place;
+            number
         }
     }
 }
 
 // By way of the whole session, which is copied out of the memory and back into it.
-#[tactic(auto, unfolding(method::specs::told::Refusals::event_said))]
-fn by_value(
-    session: &mut [[[u64; 16]; 2]; 33],
-    bytes: &[u8],
-    out: &mut [i64; 96],
-    made: &mut usize,
-) -> i64
+fn by_value(session: &mut Memory, bytes: &[u8], out: &mut [i64; 96]) -> Result<usize, EventReason>
     requires { Valid (session_in session.old) }
-    ensures number { result ≡ pos (event_said (reply_in session.old bytes.now).answer).number }
-    ensures made_after { made.new ≡ (reply_in session.old bytes.now).made }
+    ensures answer { result ≡ made_in (reply_in session.old bytes.now) }
     ensures out_after { out.new ≡ written out.old 0 (shift_rows (reply_in session.old bytes.now)) }
-    ensures session_after { Leaves result session.old session.new (reply_in session.old bytes.now).session }
+    ensures session_after { session_in session.new ≡ session_after (session_in session.old) bytes.now }
+    ensures untouched { OnErr result (session.new ≡ session.old) }
 {
-    let s = host_memory::taken(session);
-    let r = s.event(bytes);
-    let shifts = r.shifts;
-    rows::write_shifts(out, 0, shifts, r.made);
-    *made = r.made;
-    let answer = r.answer;
-    match answer {
-        EventAnswer::Refused(why) => rows::event_number(why),
-        EventAnswer::Accepted => {
-            let next = r.session;
-            host_memory::kept(session, next);
-            0
-        }
-    }
+    let mut taken = host_memory::taken(session);
+    let shifts = taken.event(bytes)?;
+    host_memory::kept(session, &taken);
+    rows::write_shifts(out, 0, &shifts);
+    Ok(shifts.len())
 }
 
-// What a walk over the lines says of an event, and the second before which no hold falls due, whatever the event.
-#[derive(Clone, Copy)]
-pub struct Seen {
-    pub verdict: Verdict,
-    pub quiet: Seconds,
-}
-
-fn looked(session: &[[[u64; 16]; 2]; 33], e: Event) -> Seen
+// The ids of the lines in their order.
+fn ids(session: &Memory) -> ArrayVec<u32, 32>
     requires { Valid (session_in session.now) }
-    ensures verdict { result.verdict ≡ decided (session_ids (view (session_in session.now)))
-        (session_in session.now).end (session_in session.now).clock e }
-    ensures quiet { result.quiet ≡ quiet_until (view (session_in session.now)) }
+    ensures { result.items ≡ session_ids (view (session_in session.now)) }
 {
-    let h = host_memory::head(session);
-    let n = h.count;
-    let mut ids: [u32; 32] = [0; 32];
-    let mut quiet = Seconds(4294967295);
-    for i in 0..n {
-        ids[i] = host_memory::id_at(session, i);
-        let holds = host_memory::holds_at(session, i);
-        quiet = due::until(quiet, h.hold, holds);
+    let mut ids = ArrayVec::new();
+    for pair in host_memory::lines(session) {
+        ids.push(host_memory::id(pair));
     }
-    let verdict = verdict::screen(&ids[..n], 0, h.end, h.clock, e);
-    Seen {
-        verdict: verdict,
-        quiet: quiet,
+    ids
+}
+
+// The second before which no hold falls due, whatever the event.
+#[tactic(auto, unfolding(due::specs::Quiet::until_all))]
+fn quiet_until(session: &Memory) -> Seconds
+    requires { Valid (session_in session.now) }
+    ensures { result ≡ quiet_until (view (session_in session.now)) }
+{
+    let hold = host_memory::head(session).hold;
+    let mut quiet = Seconds(u32::MAX);
+    for pair in host_memory::lines(session) {
+        quiet = due::until(quiet, hold, host_memory::holds(pair));
     }
+    quiet
 }
 
 // A quote on the line at its place.
 #[tactic(auto, unfolding(method::specs::computed::Event::quoted_line, method::specs::computed::Judge::judge_line))]
-fn quoted(session: &mut [[[u64; 16]; 2]; 33], place: usize, q: Quote)
-    requires { (place < 32) × Valid (session_in session.old)
+fn quoted(session: &mut Memory, place: usize, q: Quote)
+    requires { (place < 32)
         × JudgeableLine (session_in session.old).near (with_book (get_or (session_in session.old).lines place blank) q.bid q.ask) }
     ensures { session_in session.new ≡ with_line (session_in session.old) place
         (quoted_line (session_in session.old).near (session_in session.old).left q
         (get_or (session_in session.old).lines place blank)) }
 {
-    let h = host_memory::head(session);
-    let l = host_memory::line_at(session, place);
-    let m = shifts::quoted_line(h.near, h.left, q, l);
-    host_memory::with_judged(session, place, m.limits, m.book, m.holds);
+    let head = host_memory::head(session);
+    let line = host_memory::line_at(session, place);
+    let line = shifts::quoted_line(head.near, head.left, q, line);
+    host_memory::with_judged(session, place, line.limits, line.book, line.holds);
 }
 
-// One event, where the session lies. Only where a hold falls due by its second is the session taken out of the memory.
-pub fn event(
-    session: &mut [[[u64; 16]; 2]; 33],
-    bytes: &[u8],
-    out: &mut [i64; 96],
-    made: &mut usize,
-) -> i64
-    requires { Valid (session_in session.old) }
-    ensures number { result ≡ pos (event_said (reply_in session.old bytes.now).answer).number }
-    ensures made_after { made.new ≡ (reply_in session.old bytes.now).made }
-    ensures out_after { out.new ≡ written out.old 0 (shift_rows (reply_in session.old bytes.now)) }
-    ensures session_after { Leaves result session.old session.new (reply_in session.old bytes.now).session }
+// A quote is put on its line, a tick changes none, and the clock is set.
+fn applied(session: &mut Memory, v: Taken)
+    requires { Applies (session_in session.old) v.change }
+    ensures { session_in session.new ≡ applied_to (session_in session.old) v }
 {
-    let e = events::read(bytes);
-    let s = looked(session, e);
-    let said = s.verdict;
-    match said {
-        Verdict::Refused(why) => {
-            *made = 0;
-            rows::event_number(why)
-        }
-        Verdict::Taken(v) => {
-            let t = v.time;
-            if s.quiet.0 <= t.0 {
-                return by_value(session, bytes, out, made);
-            }
-            *made = 0;
-            let change = v.change;
-            match change {
-                Change::Nothing => {}
-                Change::Quote(p) => {
-                    let q = p.quote;
-                    quoted(session, p.place, q);
-                }
-            }
-            host_memory::with_clock(session, t);
-            0
-        }
+    if let Some(p) = v.change {
+        quoted(session, p.place, p.quote);
     }
+    host_memory::with_clock(session, v.time);
+}
+
+// What becomes of an event.
+fn screened(session: &Memory, bytes: &[u8]) -> Result<Taken, EventReason>
+    requires { Valid (session_in session.now) }
+    ensures { result ≡ decided (session_ids (view (session_in session.now))) (session_in session.now).end
+        (session_in session.now).clock (read bytes.now) }
+{
+    let head = host_memory::head(session);
+    verdict::screen(&ids(session), 0, head.end, head.clock, events::read(bytes))
+}
+
+// One event, where the session lies: how many shift lines there are. Only where a hold falls due by its second is the session taken out of
+// the memory.
+pub fn event(session: &mut Memory, bytes: &[u8], out: &mut [i64; 96]) -> Result<usize, EventReason>
+    requires { Valid (session_in session.old) }
+    ensures answer { result ≡ made_in (reply_in session.old bytes.now) }
+    ensures out_after { out.new ≡ written out.old 0 (shift_rows (reply_in session.old bytes.now)) }
+    ensures session_after { session_in session.new ≡ session_after (session_in session.old) bytes.now }
+    ensures untouched { OnErr result (session.new ≡ session.old) }
+{
+    let taken = screened(session, bytes)?;
+    if quiet_until(session) <= taken.time {
+        return by_value(session, bytes, out);
+    }
+    applied(session, taken);
+    Ok(0)
 }
 
 // A buffer of events. Where the room is not there, nothing is done.
-pub fn feed(session: &mut [[[u64; 16]; 2]; 33], events: &[u8], out: &mut [i64]) -> usize
+pub fn feed(session: &mut Memory, events: &[u8], out: &mut [i64]) -> usize
     requires { Valid (session_in session.old) }
-    ensures count { result ≡ number_in (fed (session_in session.old) (length out.old) events.now).answer }
+    ensures count { result ≡ number_in (fed_answer (session_in session.old) (length out.old) events.now) }
     ensures out_after { out.new ≡ fed_into (session_in session.old) out.old events.now }
-    ensures session_after { session_in session.new
-        ≡ (fed (session_in session.old) (length out.old) events.now).session }
+    ensures session_after { session_in session.new ≡ fed_session (session_in session.old) (length out.old) events.now }
 {
-    let s = host_memory::taken(session);
-    let f = feeding::feed(s, events, out);
-    let next = f.session;
-    host_memory::kept(session, next);
-    let answer = f.answer;
+    let mut taken = host_memory::taken(session);
+    let answer = feeding::feed(&mut taken, events, out);
+    host_memory::kept(session, &taken);
     counting::number_in(answer)
 }
 
 // The closing rows. Where the room is not there, nothing is written.
-pub fn close(session: &[[[u64; 16]; 2]; 33], out: &mut [i64]) -> usize
+pub fn close(session: &Memory, out: &mut [i64]) -> usize
     requires { Valid (session_in session.now) }
     ensures count { result ≡ number_in (closed (session_in session.now) (length out.old)) }
     ensures out_after { out.new ≡ closed_into (session_in session.now) out.old }
 {
-    let s = host_memory::taken(session);
-    let answer = closing::close(s, out);
-    counting::number_in(answer)
+    counting::number_in(closing::close(&host_memory::taken(session), out))
 }

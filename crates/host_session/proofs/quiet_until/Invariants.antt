@@ -1,0 +1,10 @@
+-- The second so far, brought forward by the lines that are left, is that of all lines.
+use Rattle.std.proofs.Common.{◌≡◌, map, drop}
+use Rattle.method.specs.words.Types.{seconds}
+use Rattle.due.specs.Quiet.{until_all}
+use Rattle.host_row.specs.Packed.{line_in}
+use Rattle.host_session.proofs.quiet_until.Given as goal
+
+abbrev pub invariant-loop-pair : goal.invariant-loop-pair
+invariant-loop-pair l =
+    until_all l.quiet l.hold (map line_in (drop l.pair-index l.pair-items)) ≡ until_all (seconds 4_294_967_295) l.hold (map line_in l.pair-items)
