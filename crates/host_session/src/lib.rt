@@ -105,7 +105,7 @@ fn quoted(session: &mut Memory, place: usize, q: Quote)
     let head = host_memory::head(session);
     let line = host_memory::line_at(session, place);
     let line = shifts::quoted_line(head.near, head.left, q, line);
-    host_memory::with_judged(session, place, line.limits, line.book, line.holds);
+    host_memory::with_judged(session, place, &line);
 }
 
 // A quote is put on its line, a tick changes none, and the clock is set.
