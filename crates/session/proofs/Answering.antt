@@ -7,15 +7,12 @@ use Rattle.std.proofs.Common.{Option, Some, None, IfSome, Result, Ok, Err, OnOk,
 use Rattle.std.proofs.lemmas.List.{append_cancel_left}
 use Rattle.std.specs.Io.KnownBytes.{Appends}
 use Rattle.std.proofs.KnownBytes.{Appends-trans}
-use Rattle.method.specs.declared.TableAnswer.{TableAnswer}
-use Rattle.method.specs.declared.TableAnswer.TheVariants.{Opened, Refused}
-use Rattle.method.specs.declared.TableReason.{TableReason}
+use Rattle.method.specs.declared.TableRefusal.{TableRefusal}
 use Rattle.method.specs.declared.Row.TheVariants as Row
 use Rattle.method.specs.words.Layout.{header_of}
 use Rattle.method.specs.told.Text.{line_text}
 use Rattle.method.specs.computed.Table.{opening}
 use Rattle.corridor.specs.declared.Session.{Session}
-use Rattle.corridor.specs.declared.OpenReply.{OpenReply}
 use Rattle.corridor.specs.View.{opened_session}
 use Rattle.feeding.specs.Chunks.{all_bytes}
 use Rattle.session.specs.Reading.{table_end, TableFrom}
@@ -40,28 +37,25 @@ module _ (first last : Session) (before after held : Option (List ℕ)) where
       }
 
 -- ---- after a table's answer
-module _ (table : List ℕ) {o : OpenReply} (same : o ≡ opened_session (opening table)) (before after : Option (List ℕ)) where
-  abbrev Told : OpenReply → List ℕ → Type 0
-  Told r rest = Answers (λ (chunks : List (List ℕ)). texts_after r.answer r.session chunks) before after rest
+module _ (table : List ℕ) {o : Result Session TableRefusal} (same : o ≡ opened_session (opening table)) (before after : Option (List ℕ)) where
+  abbrev Told : Result Session TableRefusal → List ℕ → Type 0
+  Told r rest = Answers (texts_after r) before after rest
 
-  pub answered-opened : (input : Option (List ℕ)) → o.answer ≡ Opened → IfSome input (Answers (texts o.session) before after) → IfSome input (Answers (printed table) before after)
-  answered-opened None is t = tt
-  answered-opened (Some rest) is t =
-      subst (λ (r : OpenReply). Told r rest) same
-      (subst (λ (a : TableAnswer). Answers (λ (chunks : List (List ℕ)). texts_after a o.session chunks) before after rest) (sym is) t)
+  pub answered-opened : (input : Option (List ℕ)) (s : Session) → o ≡ Ok s → IfSome input (Answers (texts s) before after) → IfSome input (Answers (printed table) before after)
+  answered-opened None s is t = tt
+  answered-opened (Some rest) s is t = subst (λ (r : Result Session TableRefusal). Told r rest) (sym is ∙ same) t
 
   -- all that follows a refused table is one chunk that nobody looks at
-  pub answered-refused : (input : Option (List ℕ)) (why : TableReason) (line : ℕ) → o.answer ≡ Refused why line → Appends before after (line_text (Row.RefusedTable why line))
+  pub answered-refused : (input : Option (List ℕ)) (r : TableRefusal) → o ≡ Err r → Appends before after (line_text (Row.RefusedTable r.reason r.line))
       → IfSome input (Answers (printed table) before after)
-  answered-refused None why line is t = tt
-  answered-refused (Some rest) why line is t =
-      subst (λ (r : OpenReply). Told r rest) same
-      (subst (λ (a : TableAnswer). Answers (λ (chunks : List (List ℕ)). texts_after a o.session chunks) before after rest) (sym is)
+  answered-refused None r is t = tt
+  answered-refused (Some rest) r is t =
+      subst (λ (z : Result Session TableRefusal). Told z rest) (sym is ∙ same)
       (record {
         chunks = rest ∷ [];
         cut = record { whole = tt; all = append-nil rest };
-        told = subst (Appends before after) (sym (append-nil (line_text (Row.RefusedTable why line)))) t;
-      }))
+        told = subst (Appends before after) (sym (append-nil (line_text (Row.RefusedTable r.reason r.line)))) t;
+      })
 
 -- ---- the whole input: its table, and what follows it
 module _ (n : ℕ) (room : List ℕ) (before after : Option (List ℕ)) where

@@ -1,4 +1,3 @@
-pub mod Taken
 pub mod Tables
 pub mod Texts
 pub mod Going

@@ -7,9 +7,10 @@ use Rattle.std.specs.Io.KnownBytes.{Consumes}
 use Rattle.std.proofs.KnownBytes.{Consumes-trans}
 use Rattle.method.specs.declared.Header.{Header}
 use Rattle.method.specs.words.Layout.{header_of, table_length}
-use Rattle.session.specs.Reading.{longest_table, table_end, FilledFrom, TableFrom}
+use Rattle.session.specs.Reading.{longest_table, table_end, TableFrom}
+use Rattle.filling.specs.Filled.{FilledFrom}
 use Rattle.session.proofs.HeaderAlone.{header_front}
-use Rattle.session.proofs.Taken.{filled-short, filled-upto}
+use Rattle.filling.proofs.Taken.{filled-short, filled-upto}
 
 -- the header by itself at least, and the longest table at most
 pub record EndIn (end : ℕ) : Type 0 where

@@ -1,6 +1,6 @@
 -- Rows that stand in a buffer of numbers, as text at the start of a buffer of bytes. Assumes nothing.
 use mathlib.Core.Path.{◌≡◌, sym, ap, ◌∙◌}
-use mathlib.Core.List.{List, [], ◌∷◌, append-nil}
+use mathlib.Core.List.{List}
 use Prim.Native.Nat.{ℕ, ◌+◌, ◌≤◌}
 use native.Mathlib.Omega.{arith}
 use lib.IntN.{ℤ}
@@ -10,10 +10,9 @@ use Rattle.method.specs.declared.Row.{Row}
 use Rattle.method.specs.told.Rows.{row_numbers, numbers_of}
 use Rattle.method.specs.told.Text.{line_text, text_of}
 use Rattle.rows.specs.Buffer.{written}
-use Rattle.rows.proofs.Buffer.{numbers-one}
-use Rattle.text.specs.Line.{all_text, Put}
+use Rattle.text.specs.Line.{numbers_text, all_text, Put}
 use Rattle.text.proofs.Putting.{put_as}
-use Rattle.text.proofs.Rows.{all_are}
+use Rattle.text.proofs.Rows.{line-is, all_are}
 use Rattle.session.specs.Printing.{Begins}
 
 module _ {A : Type 0} (out xs : List A) {now : List A} {n : ℕ} (w : now ≡ written out 0 xs) (e : n ≡ length xs) where
@@ -35,5 +34,5 @@ begins {b} {c} {t} {r} p =
 pub said : (rows : List Row) {xs : List ℤ} {b c : List ℕ} {r : ℕ} → xs ≡ numbers_of rows → Put b 0 (all_text xs) c r → Begins c r (text_of rows)
 said rows e p = begins (put_as (ap all_text e ∙ all_are rows) p)
 
-pub said-one : (row : Row) {xs : List ℤ} {b c : List ℕ} {r : ℕ} → xs ≡ row_numbers row → Put b 0 (all_text xs) c r → Begins c r (line_text row)
-said-one row {c = c} {r = r} e p = rw (append-nil (line_text row)) at (said (row ∷ []) (e ∙ sym (numbers-one row)) p)
+pub said-line : (row : Row) {xs : List ℤ} {b c : List ℕ} {r : ℕ} → xs ≡ row_numbers row → Put b 0 (numbers_text xs) c r → Begins c r (line_text row)
+said-line row e p = begins (put_as (ap numbers_text e ∙ line-is row) p)

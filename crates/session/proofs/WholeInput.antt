@@ -7,8 +7,8 @@ use native.Mathlib.Omega.{arith}
 use borrow.Author.Tests.{ltb-true}
 use lib.Dec.{ltb}
 use lib.ListN.{take, drop}
+use Rattle.std.proofs.Common.{Ok}
 use Rattle.method.specs.declared.Row.{Row}
-use Rattle.method.specs.declared.TableAnswer.TheVariants.{Opened}
 use Rattle.method.specs.words.Types.{State}
 use Rattle.method.specs.words.Layout.{header_of, table_length}
 use Rattle.method.specs.words.Tables.{Opening, opened, refused}
@@ -25,7 +25,7 @@ use Rattle.corridor.specs.View.{view, put, no_session, opened_session, Valid}
 use Rattle.feeding.specs.Feeding.{rows_for, left_by}
 use Rattle.feeding.specs.Chunks.{all_bytes, WholeButLast, raised, rows_in, left_in}
 use Rattle.corridor.proofs.Views.{view-put}
-use Rattle.corridor.proofs.Theorems.{valid_open}
+use Rattle.corridor.proofs.Theorems.{valid-opened}
 use Rattle.feeding.proofs.Joined.{one-buffer, places_aside}
 use Rattle.session.specs.Reading.{longest_table, table_end}
 use Rattle.session.specs.Printing.{told_text, closing_text, texts, texts_after, WholeInput}
@@ -64,14 +64,14 @@ state-told x b =
 
 -- ---- after a table's answer
 abbrev text-after : Opening → List (List ℕ) → List ℕ
-text-after x chunks = all_bytes (texts_after (opened_session x).answer (opened_session x).session chunks)
+text-after x chunks = all_bytes (texts_after (opened_session x) chunks)
 
-after-opening : (x : Opening) (chunks : List (List ℕ)) → ((opened_session x).answer ≡ Opened → Valid (opened_session x).session) → WholeButLast chunks
+after-opening : (x : Opening) (chunks : List (List ℕ)) → ((s : Session) → opened_session x ≡ Ok s → Valid s) → WholeButLast chunks
     → text-after x chunks ≡ text_of (rows_after x (events_of (all_bytes chunks)))
 unfolding opened_session rows_after
 after-opening (opened x) chunks v w =
     let s : Session = put no_session x in
-    let one = one-buffer s chunks (v refl) w in
+    let one = one-buffer s chunks (v s refl) w in
     texts_are s chunks ∙ rw (places_aside text_of text-append text_still s chunks ∙ ap text_of one.rows, one.session) (state-told x (all_bytes chunks))
 after-opening (refused why line) chunks v w = refl
 
@@ -92,7 +92,7 @@ module _ (input : List ℕ) (chunks : List (List ℕ)) (w : WholeButLast chunks)
       rw (same_answer input many 40 size (omega arith) (omega arith))
       (after-refusal (opening (take size input)) chunks (events_of (drop size input)) (is-refused input many size (omega arith)))
   by_counts false t e =
-      after-opening (opening (take size input)) chunks (valid_open (take size input)) w
+      after-opening (opening (take size input)) chunks (λ s e. valid-opened (take size input) (sym e)) w
       ∙ ap (λ (b : List ℕ). text_of (rows_after (opening (take size input)) (events_of b))) e
 
   in_text : all_bytes chunks ≡ drop (table_end (header_of input)) input → text-after (opening (take (table_end (header_of input)) input)) chunks ≡ text_of (program input)

@@ -3,15 +3,14 @@
 --
 -- The contracts of `answers::chunk`, `answers::closing` and `answers::refusal` name these texts, that of `reading::table_end` the end of the
 -- table, and that of `chunks::answer_events` a session that some chunks leave. What is read and what is written is in the contracts too, for an
--- input whose bytes are known: `reading::table` reads up to `table_end`, `reading::fill` the next bytes, fewer than a slice has only at the
+-- input whose bytes are known: `reading::table` reads up to `table_end`, `filling::fill` the next bytes, fewer than a slice has only at the
 -- input's end; `answer_events` cuts all that follows into chunks, and where `answer_whole` answers `Ok` it wrote what the method says is written
 -- for the input. Outside of all contracts, and to be read off the code: that an error comes of a failed read or write alone (or after 2^64 - 1
 -- chunks), and nothing is written after it; that a chunk's answers are written before the next chunk is read; and that `main` hands over standard
 -- input and output, of which nothing is known but what their reads and writes tell, and drops the error.
-use Rattle.std.specs.Prelude.{◌≡◌, List, [], ◌∷◌, map, ℕ, ◌≤◌, length, take, drop, Option}
+use Rattle.std.specs.Prelude.{◌≡◌, List, [], ◌∷◌, map, ℕ, ◌≤◌, length, take, drop, Option, Result, Ok, Err}
 use Rattle.std.specs.Io.KnownBytes.{Appends}
-use Rattle.method.specs.declared.TableAnswer.{TableAnswer}
-use Rattle.method.specs.declared.TableAnswer.TheVariants.{Opened, Refused}
+use Rattle.method.specs.declared.TableRefusal.{TableRefusal}
 use Rattle.method.specs.declared.Row.TheVariants as Row
 use Rattle.method.specs.words.Layout.{header_of}
 use Rattle.method.specs.told.Rows.{rows_of_all, closing_row}
@@ -44,12 +43,12 @@ texts s [] = closing_text s ∷ []
 texts s (chunk ∷ chunks) = told_text s chunk ∷ texts (left_by s chunk) chunks
 
 -- of a refused table: its line, and nothing more
-abbrev pub texts_after : TableAnswer → Session → List (List ℕ) → List (List ℕ)
-texts_after Opened s chunks = texts s chunks
-texts_after (Refused why line) s chunks = line_text (Row.RefusedTable why line) ∷ []
+abbrev pub texts_after : Result Session TableRefusal → List (List ℕ) → List (List ℕ)
+texts_after (Ok s) chunks = texts s chunks
+texts_after (Err r) chunks = line_text (Row.RefusedTable r.reason r.line) ∷ []
 
 abbrev pub printed : List ℕ → List (List ℕ) → List (List ℕ)
-printed table chunks = texts_after (opened_session (opening table)).answer (opened_session (opening table)).session chunks
+printed table chunks = texts_after (opened_session (opening table)) chunks
 
 -- The program reads an input up to `table_end` as the table, and then the rest in chunks of whole events, of which only the last may be
 -- cut. All bytes that it hands to write are then those that the method says are written for the whole input, wherever between two events it is

@@ -1,7 +1,7 @@
--- How much of the input is read as the table, how far a slice is filled, and with what.
-use Rattle.std.specs.Prelude.{◌≡◌, cond, List, ℕ, ◌+◌, ◌*◌, ◌<◌, ltb, length, take, Option, Result, IfSome}
+-- How much of the input is read as the table, and what was read.
+use Rattle.std.specs.Prelude.{◌≡◌, cond, List, ℕ, ◌+◌, ◌*◌, ltb, take, Option, Result, IfSome}
 use Rattle.std.specs.Io.{ReadsAtMost}
-use Rattle.std.specs.Io.KnownBytes.{Consumes, IsAtEnd}
+use Rattle.std.specs.Io.KnownBytes.{Consumes}
 use Rattle.method.specs.declared.Header.{Header}
 use Rattle.method.specs.words.Layout.{header_of, table_length}
 use Rattle.method.specs.words.Ranges.{most_contracts, most_keys}
@@ -19,11 +19,6 @@ abbrev pub Within : {E : Type 0} → Result ℕ E → List ℕ → Type 0
 Within r room = ReadsAtMost r room
 
 -- ---- what was read, of an input whose bytes are known (`Some` of them) before and after
--- a slice has the input's next n bytes at its start, and is not full only where nothing is left
-pub record FilledFrom (before after : Option (List ℕ)) (n : ℕ) (room : List ℕ) : Type 0 where
-  pub taken : Consumes before after (take n room)
-  pub ended : n < length room → IsAtEnd after
-
 -- the first n bytes are the input's up to `table_end`, and what follows is left
 pub record TableFrom (before after : Option (List ℕ)) (n : ℕ) (room : List ℕ) : Type 0 where
   pub taken : Consumes before after (take n room)

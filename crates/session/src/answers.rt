@@ -1,4 +1,5 @@
-// What the program says, as text at the start of a buffer: of a chunk of events, at the end, and of a refused table.
+// What the program says, as text at the start of a buffer: of a chunk of events, at the end, and of a refused table. The answer of each is how
+// many bytes there are.
 
 ghost use Rattle.std.specs.Prelude.{◌≡◌, ◌*◌, ◌≤◌, length};
 ghost use Rattle.method.specs.declared.Row.TheVariants as RowOf;
@@ -9,45 +10,36 @@ ghost use Rattle.feeding.specs.Feeding.{feed_needs, left_by};
 ghost use Rattle.session.specs.Printing.{told_text, closing_text, Begins};
 
 use corridor::Session;
-use method::{Row, TableReason};
+use method::{Row, TableRefusal};
+use text::{BYTES_PER_NUMBER, LINE_BYTES};
 
-// The session that a chunk leaves, and how many bytes its answers have.
-#[derive(Clone, Copy)]
-pub(crate) struct ChunkText {
-    pub(crate) session: Session,
-    pub(crate) size: usize,
-}
-
-// A chunk of events.
-pub(crate) fn chunk(s: Session, events: &[u8], numbers: &mut [i64], buffer: &mut [u8]) -> ChunkText
-    requires { Valid s × (feed_needs (length events.now) ≤ length numbers.old) × (20 * feed_needs (length events.now) ≤ length buffer.old) }
-    ensures session_value { result.session ≡ left_by s events.now }
-    ensures begins { Begins buffer.new result.size (told_text s events.now) }
+// A chunk of events. The session becomes the one that they leave.
+pub(crate) fn chunk(s: &mut Session, events: &[u8], numbers: &mut [i64], buffer: &mut [u8]) -> usize
+    requires { Valid s.old × (feed_needs (length events.now) ≤ length numbers.old) × (BYTES_PER_NUMBER * feed_needs (length events.now) ≤ length buffer.old) }
+    ensures session_after { s.new ≡ left_by s.old events.now }
+    ensures begins { Begins buffer.new result (told_text s.old events.now) }
 {
-    let a = counting::counted(s, events, numbers);
-    let count = a.count;
-    let size = text::lines(&numbers[..count], buffer);
-    let session = a.session;
-    ChunkText {
-        session: session,
-        size: size,
-    }
+    let count = counting::counted(s, events, numbers);
+    text::lines(&numbers[..count], buffer)
 }
 
 // The closing lines.
-pub(crate) fn closing(s: Session, numbers: &mut [i64], buffer: &mut [u8]) -> usize
-    requires { Valid s × (most_closing ≤ length numbers.old) × (20 * most_closing ≤ length buffer.old) }
-    ensures { Begins buffer.new result (closing_text s) }
+pub(crate) fn closing(s: &Session, numbers: &mut [i64], buffer: &mut [u8]) -> usize
+    requires { Valid s.now × (most_closing ≤ length numbers.old) × (BYTES_PER_NUMBER * most_closing ≤ length buffer.old) }
+    ensures { Begins buffer.new result (closing_text s.now) }
 {
     let count = counting::closed(s, numbers);
     text::lines(&numbers[..count], buffer)
 }
 
 // A refused table's line.
-pub(crate) fn refusal(why: TableReason, line: u32, buffer: &mut [u8]) -> usize
-    requires { 120 ≤ length buffer.old }
-    ensures { Begins buffer.new result (line_text (RowOf.RefusedTable why line)) }
+pub(crate) fn refusal(refused: TableRefusal, buffer: &mut [u8]) -> usize
+    requires { LINE_BYTES ≤ length buffer.old }
+    ensures { Begins buffer.new result (line_text (RowOf.RefusedTable refused.reason refused.line)) }
 {
-    let numbers = rows::row_numbers(Row::RefusedTable(why, line));
-    text::lines(&numbers, buffer)
+    text::line(
+        rows::row_numbers(Row::RefusedTable(refused.reason, refused.line)),
+        buffer,
+        0,
+    )
 }

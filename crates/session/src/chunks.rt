@@ -1,34 +1,33 @@
 // The events, chunk after chunk, and the closing lines.
 
 ghost use Rattle.std.specs.Prelude.{◌≡◌, IfSome, OnOk, length};
+ghost use Rattle.std.specs.Io.KnownBytes.{Appends};
 ghost use Rattle.corridor.specs.View.{Valid};
+ghost use Rattle.session.specs.declared.chunks.TheConstants.{CHUNK_BYTES, CHUNK_NUMBERS, CHUNK_TEXT};
 ghost use Rattle.session.specs.Chunks.{Reached};
-ghost use Rattle.session.specs.Printing.{texts, Answers, TellsChunks};
+ghost use Rattle.session.specs.Printing.{texts, closing_text, Answers, TellsChunks};
 
-use crate::{answers, reading};
+use crate::answers;
 use corridor::Session;
 use std::io;
 use std::io::{ErrorKind, Read, Write};
 
-// A buffer for 2,048 events: whole ones, so only the last chunk of an input can end in a cut event.
-fn chunk_room() -> [u8; 40960]
-    ensures { 40960 ≡ length result }
-{
-    [0; 40960]
-}
+// 2,048 events: whole ones, so only the last chunk of an input can end in a cut event.
+const CHUNK_BYTES: usize = 40960;
 
-// The numbers that the answers to a chunk may come to: six a row, a row for each event, and one for each of 16 shifts.
-fn row_room() -> [i64; 12384]
-    ensures { 12384 ≡ length result }
-{
-    [0; 12384]
-}
+// What the answers to a chunk may come to: six numbers a row, a row for each event, and one for each of 16 shifts.
+const CHUNK_NUMBERS: usize = 12384;
 
-// Their text, with 20 bytes for each number.
-fn text_room() -> [u8; 247680]
-    ensures { 247680 ≡ length result }
-{
-    [0; 247680]
+// Their text.
+const CHUNK_TEXT: usize = text::BYTES_PER_NUMBER * CHUNK_NUMBERS;
+
+// The room for a chunk and its answers.
+#[derive(Drop)]
+struct Room {
+    chunk: [u8; CHUNK_BYTES],
+    numbers: [i64; CHUNK_NUMBERS],
+    text: [u8; CHUNK_TEXT],
+    ghost sizes: { (length chunk ≡ CHUNK_BYTES) × (length numbers ≡ CHUNK_NUMBERS) × (length text ≡ CHUNK_TEXT) },
 }
 
 // Each chunk's answers are written before the next chunk is read; the session is the one that the chunks left, also where a read or a write
@@ -37,26 +36,36 @@ fn answer_events<R: Read, W: Write>(
     input: &mut R,
     output: &mut W,
     session: &mut Session,
-    chunk: &mut [u8],
-    numbers: &mut [i64],
-    buffer: &mut [u8],
+    room: &mut Room,
 ) -> io::Result<()>
-    requires valid { Valid session.old }
-    requires chunk_len { (length chunk.old ≡ 40960) × (length numbers.old ≡ 12384) × (length buffer.old ≡ 247680) }
+    requires { Valid session.old }
     ensures reached { Reached session.old session.new }
     ensures told { OnOk result (IfSome (R.remaining input.old)
         (TellsChunks session.old session.new (W.contents output.old) (W.contents output.new))) }
 {
     for _ in 0..u64::MAX {
-        let size = reading::fill(input, chunk)?;
-        let told = answers::chunk(*session, &chunk[..size], numbers, buffer);
-        *session = told.session;
-        output.write_all(&buffer[..told.size])?;
-        if size < 40960 {
+        let size = filling::fill(input, &mut room.chunk)?;
+        let told = answers::chunk(
+            session,
+            &room.chunk[..size],
+            &mut room.numbers,
+            &mut room.text,
+        );
+        output.write_all(&room.text[..told])?;
+        if size < CHUNK_BYTES {
             return Ok(());
         }
     }
     Err(io::Error::from(ErrorKind::TimedOut))
+}
+
+// Prints the closing lines.
+fn close<W: Write>(output: &mut W, session: &Session, room: &mut Room) -> io::Result<()>
+    requires { Valid session.now }
+    ensures { OnOk result (Appends (W.contents output.old) (W.contents output.new) (closing_text session.now)) }
+{
+    let size = answers::closing(session, &mut room.numbers, &mut room.text);
+    output.write_all(&room.text[..size])
 }
 
 // Answers all events, and then prints the closing lines.
@@ -69,18 +78,12 @@ pub(crate) fn answer_all<R: Read, W: Write>(
     ensures { OnOk result (IfSome (R.remaining input.old)
         (Answers (texts first) (W.contents output.old) (W.contents output.new))) }
 {
-    let mut chunk = chunk_room();
-    let mut numbers = row_room();
-    let mut buffer = text_room();
     let mut session = first;
-    answer_events(
-        input,
-        output,
-        &mut session,
-        &mut chunk,
-        &mut numbers,
-        &mut buffer,
-    )?;
-    let size = answers::closing(session, &mut numbers, &mut buffer);
-    output.write_all(&buffer[..size])
+    let mut room = Room {
+        chunk: [0; CHUNK_BYTES],
+        numbers: [0; CHUNK_NUMBERS],
+        text: [0; CHUNK_TEXT],
+    };
+    answer_events(input, output, &mut session, &mut room)?;
+    close(output, &session, &mut room)
 }

@@ -7,14 +7,13 @@
 
 #![tactic(auto)]
 
-ghost use Rattle.std.specs.Prelude.{◌≡◌, IfSome, OnOk, length};
+ghost use Rattle.std.specs.Prelude.{IfSome, OnOk};
 ghost use Rattle.std.specs.Io.KnownBytes.{Appends};
 ghost use Rattle.method.specs.declared.Row.TheVariants as RowOf;
 ghost use Rattle.method.specs.told.Text.{line_text};
-ghost use Rattle.session.specs.Reading.{longest_table};
 ghost use Rattle.session.specs.Printing.{printed, Answers, AnswersWhole};
 
-use method::{TableAnswer, TableReason};
+use method::TableRefusal;
 use std::io;
 use std::io::{Read, Write};
 
@@ -22,27 +21,13 @@ mod answers;
 mod chunks;
 mod reading;
 
-// As long as the longest table. A function of its own keeps a buffer's elements out of the callers' goals.
-fn table_room() -> [u8; 1448]
-    ensures { longest_table ≡ length result }
-{
-    [0; 1448]
-}
-
-// Room for the text of one row: 20 bytes for each of its six numbers.
-fn line_room() -> [u8; 120]
-    ensures { 120 ≡ length result }
-{
-    [0; 120]
-}
-
 // A refused table's line, and nothing more.
-fn print_refusal<W: Write>(output: &mut W, why: TableReason, line: u32) -> io::Result<()>
+fn print_refusal<W: Write>(output: &mut W, refused: TableRefusal) -> io::Result<()>
     ensures { OnOk result (Appends (W.contents output.old) (W.contents output.new)
-        (line_text (RowOf.RefusedTable why line))) }
+        (line_text (RowOf.RefusedTable refused.reason refused.line))) }
 {
-    let mut buffer = line_room();
-    let size = answers::refusal(why, line, &mut buffer);
+    let mut buffer = [0; text::LINE_BYTES];
+    let size = answers::refusal(refused, &mut buffer);
     output.write_all(&buffer[..size])
 }
 
@@ -51,11 +36,9 @@ fn answer_input<R: Read, W: Write>(table: &[u8], input: &mut R, output: &mut W) 
     ensures { OnOk result (IfSome (R.remaining input.old)
         (Answers (printed table.now) (W.contents output.old) (W.contents output.new))) }
 {
-    let o = corridor::open(table);
-    let answer = o.answer;
-    match answer {
-        TableAnswer::Refused(why, line) => print_refusal(output, why, line),
-        TableAnswer::Opened => chunks::answer_all(input, output, o.session),
+    match corridor::open(table) {
+        Err(refused) => print_refusal(output, refused),
+        Ok(session) => chunks::answer_all(input, output, session),
     }
 }
 
@@ -64,7 +47,7 @@ fn answer_whole<R: Read, W: Write>(input: &mut R, output: &mut W) -> io::Result<
     ensures { OnOk result (IfSome (R.remaining input.old)
         (AnswersWhole (W.contents output.old) (W.contents output.new))) }
 {
-    let mut room = table_room();
+    let mut room = [0; reading::LONGEST_TABLE];
     let size = reading::table(input, &mut room)?;
     answer_input(&room[..size], input, output)
 }

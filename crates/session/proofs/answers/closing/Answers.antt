@@ -10,11 +10,11 @@ use Rattle.session.proofs.answers.closing.Goals as goal
 pub lines-requires : goal.lines-requires
 lines-requires c =
     let count = c.closed-count.ensures in
-    let numbers = front c.args.numbers.now (closing_numbers c.args.s) count.numbers_after count.value in
-    omega (arith, ap length numbers, closing_few c.args.s c.requires.0, c.requires.1)
+    let numbers = front c.args.numbers.now (closing_numbers c.args.s.now) count.numbers_after count.value in
+    omega (arith, ap length numbers, closing_few c.args.s.now c.requires.0, c.requires.1)
 
 pub returns : goal.returns
 returns c =
     let count = c.closed-count.ensures in
-    said (map closing_row (view c.args.s).lines)
-    (front c.args.numbers.now (closing_numbers c.args.s) count.numbers_after count.value) c.lines.ensures
+    said (map closing_row (view c.args.s.now).lines)
+    (front c.args.numbers.now (closing_numbers c.args.s.now) count.numbers_after count.value) c.lines.ensures

@@ -3,8 +3,9 @@ use Rattle.std.proofs.Common.{◌≡◌, ℕ, ◌+◌, ◌-◌, ◌≤◌, lengt
 use Rattle.std.proofs.Math.Seq.{take-append-le, take_at, length-take-le}
 use borrow.Rule.Slice.PartMut.{put_mid, same_len_mid, mid_len}
 use Rattle.method.specs.words.Layout.{header_of}
-use Rattle.session.specs.Reading.{table_end, FilledFrom}
-use Rattle.session.proofs.Taken.{taken_on}
+use Rattle.session.specs.Reading.{table_end}
+use Rattle.filling.specs.Filled.{FilledFrom}
+use Rattle.filling.proofs.Taken.{taken_on}
 use Rattle.session.proofs.Tables.{end_in, header-long, room-long, read_header_long, header-short, header-and-rest}
 use Rattle.session.proofs.reading.table.Goals as goal
 
@@ -17,9 +18,6 @@ returns-then-got-lt40-clause-table g c =
     let long : length header ≡ 40 = omega (arith, c.fill.auto.room, header-long c.args.room.now (omega arith)) in
     header-short _ _ c.in_ok-got.got header _ long c.if-got-lt40.true c.in_ok-got.ensures.filled
     (take-append-le c.in_ok-got.got header (drop 40 c.args.room.now) c.in_ok-got.ensures.within.0)
-
-pub slice_bounds-table_end-end-2 : goal.slice_bounds-table_end-end-2
-slice_bounds-table_end-end-2 g c = read_header_long c.fill.new.room c.args.room.now c.fill.auto.room (omega arith)
 
 pub table_end-end-requires : goal.table_end-end-requires
 table_end-end-requires g c =
