@@ -3,53 +3,39 @@
 
 #![tactic(auto)]
 
-ghost use Rattle.std.specs.Prelude.{◌≡◌, IfOk, length};
 ghost use Rattle.corridor.specs.View.{Valid};
 
 use corridor::Session;
-use method::TableAnswer;
 use numbers::Steps;
 use std::io;
 use std::io::Read;
 
 mod answers;
 mod rates;
-mod reading;
-mod saying;
 
 // Three keys and ten contracts.
-fn table_room() -> [u8; 464]
-    ensures { 464 ≡ length result }
+const TABLE_BYTES: usize = 464;
+
+// The session is handed its next event.
+fn next<R: Read>(input: &mut R, s: &mut Session) -> io::Result<()>
+    requires { Valid s.old }
+    ensures { Valid s.new }
 {
-    [0; 464]
+    let mut event = [0; 20];
+    let size = filling::fill(input, &mut event)?;
+    let _ = s.event(&event[..size]);
+    Ok(())
 }
 
-fn event_room() -> [u8; 20]
-    ensures { 20 ≡ length result }
+fn told(out: &impl Print, words: &str, s: &Session, id: u32) -> io::Result<()>
+    requires { Valid s.now }
 {
-    [0; 20]
-}
-
-// The session after the next event.
-fn after<R: Read>(input: &mut R, s: Session) -> io::Result<Session>
-    requires { Valid s }
-    ensures { IfOk result (λ next. Valid next) }
-{
-    let mut room = event_room();
-    let size = reading::fill(input, &mut room)?;
-    let r = s.event(&room[..size]);
-    Ok(r.session)
-}
-
-fn told(out: &impl Print, words: &str, s: Session, id: u32) -> io::Result<()>
-    requires { Valid s }
-{
-    saying::heading(out, words)?;
+    println!(out; "{words}")?;
     answers::report(out, questions::report(s, id))
 }
 
-fn opening(out: &impl Print, s: Session) -> io::Result<()>
-    requires { Valid s }
+fn opening(out: &impl Print, s: &Session) -> io::Result<()>
+    requires { Valid s.now }
 {
     told(out, "Spot -2,001, rates 100,000, 100,001, 300,000", s, 4)?;
     told(out, "The same with least price 5,000", s, 5)?;
@@ -68,8 +54,8 @@ fn opening(out: &impl Print, s: Session) -> io::Result<()>
     told(out, "P 30, half-width 30, y 0, width share 900,000", s, 3)
 }
 
-fn floors(out: &impl Print, s: Session) -> io::Result<()>
-    requires { Valid s }
+fn floors(out: &impl Print, s: &Session) -> io::Result<()>
+    requires { Valid s.now }
 {
     told(out, "A lower limit of -17 becomes 1", s, 6)?;
     told(out, "A lower limit of exactly 1", s, 8)?;
@@ -78,24 +64,19 @@ fn floors(out: &impl Print, s: Session) -> io::Result<()>
 }
 
 // No answer has the half-move: it is read off the line of P 30.
-fn half_move(out: &impl Print, s: Session) -> io::Result<()>
-    requires { Valid s }
+fn half_move(out: &impl Print, s: &Session) -> io::Result<()>
+    requires { Valid s.now }
 {
-    let l = s.lines[2];
-    saying::row(
-        out,
-        "half-move at shift share 500,000",
-        &[l.terms.halfmove.0],
+    println!(out;
+        "  half-move at shift share 500,000: {}",
+        s.lines[2].terms.halfmove.0
     )
 }
 
-fn questions(out: &impl Print, s: Session) -> io::Result<()>
-    requires { Valid s }
+fn questions(out: &impl Print, s: &Session) -> io::Result<()>
+    requires { Valid s.now }
 {
-    saying::heading(
-        out,
-        "Questions of the sample: both limits count as inside, and an unknown id is 13",
-    )?;
+    println!(out; "Questions of the sample: both limits count as inside, and an unknown id is 13")?;
     answers::limits(out, questions::limits(s, 7))?;
     answers::place(out, "949", questions::place(s, 7, Steps(949)))?;
     answers::place(out, "950", questions::place(s, 7, Steps(950)))?;
@@ -110,74 +91,70 @@ fn questions(out: &impl Print, s: Session) -> io::Result<()>
     answers::report(out, questions::report(s, 11))
 }
 
-// The session after the quotes.
-fn quotes<R: Read>(out: &impl Print, input: &mut R, s: Session) -> io::Result<Session>
-    requires { Valid s }
-    ensures { IfOk result (λ next. Valid next) }
+fn quotes<R: Read>(out: &impl Print, input: &mut R, s: &mut Session) -> io::Result<()>
+    requires { Valid s.old }
+    ensures { Valid s.new }
 {
-    let first = after(input, s)?;
-    let near = after(input, first)?;
-    told(out, "A bid of 1045 at 10 wouldn't press", near, 7)?;
-    let pressed = after(input, near)?;
-    told(out, "A bid of 1046 presses", pressed, 7)?;
-    Ok(pressed)
+    next(input, s)?;
+    next(input, s)?;
+    told(out, "A bid of 1045 at 10 wouldn't press", s, 7)?;
+    next(input, s)?;
+    told(out, "A bid of 1046 presses", s, 7)
 }
 
-fn down_shift<R: Read>(out: &impl Print, input: &mut R, s: Session) -> io::Result<Session>
-    requires { Valid s }
-    ensures { IfOk result (λ next. Valid next) }
+fn down_shift<R: Read>(out: &impl Print, input: &mut R, s: &mut Session) -> io::Result<()>
+    requires { Valid s.old }
+    ensures { Valid s.new }
 {
-    let down = after(input, s)?;
-    told(out, "P 30 after one down shift", down, 3)?;
+    next(input, s)?;
+    told(out, "P 30 after one down shift", s, 3)?;
     told(
         out,
         "The sample too: a shift acts on all lines, and the other side's hold goes on",
-        down,
-        7,
-    )?;
-    Ok(down)
-}
-
-fn up_shift<R: Read>(out: &impl Print, input: &mut R, s: Session) -> io::Result<()>
-    requires { Valid s }
-{
-    let up = after(input, s)?;
-    told(
-        out,
-        "The sample after an up shift: no hold exists any more",
-        up,
-        7,
-    )?;
-    let at_end = after(input, up)?;
-    let late = after(input, at_end)?;
-    told(
-        out,
-        "Event at session end: accepted. One second later: 10",
-        late,
+        s,
         7,
     )
 }
 
-fn lines<R: Read>(out: &impl Print, input: &mut R, s: Session) -> io::Result<()>
-    requires { Valid s }
+fn up_shift<R: Read>(out: &impl Print, input: &mut R, s: &mut Session) -> io::Result<()>
+    requires { Valid s.old }
+{
+    next(input, s)?;
+    told(
+        out,
+        "The sample after an up shift: no hold exists any more",
+        s,
+        7,
+    )?;
+    next(input, s)?;
+    next(input, s)?;
+    told(
+        out,
+        "Event at session end: accepted. One second later: 10",
+        s,
+        7,
+    )
+}
+
+fn lines<R: Read>(out: &impl Print, input: &mut R, s: &mut Session) -> io::Result<()>
+    requires { Valid s.old }
 {
     opening(out, s)?;
     half_move(out, s)?;
     floors(out, s)?;
     questions(out, s)?;
-    let pressed = quotes(out, input, s)?;
-    let down = down_shift(out, input, pressed)?;
-    up_shift(out, input, down)
+    quotes(out, input, s)?;
+    down_shift(out, input, s)?;
+    up_shift(out, input, s)
 }
 
 fn main(rt: HostRuntime) -> io::Result<()> {
     rates::say(&rt)?;
     let mut input = rt.stdin();
-    let mut room = table_room();
-    let size = reading::fill(&mut input, &mut room)?;
-    let o = corridor::open(&room[..size]);
-    match o.answer {
-        TableAnswer::Refused(_, _) => saying::heading(&rt, "The table is refused"),
-        TableAnswer::Opened => lines(&rt, &mut input, o.session),
+    let mut table = [0; TABLE_BYTES];
+    let size = filling::fill(&mut input, &mut table)?;
+    match corridor::open(&table[..size]) {
+        Err(_) => println!(rt; "The table is refused"),
+        Ok(mut session) => lines(&rt, &mut input, &mut session),
     }
 }
