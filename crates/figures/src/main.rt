@@ -14,7 +14,7 @@ mod answers;
 mod rates;
 
 // Three keys and ten contracts.
-const TABLE_BYTES: usize = 464;
+const TABLE_BYTES: usize = 40 + 8 * 3 + 40 * 10;
 
 // The session is handed its next event.
 fn next<R: Read>(input: &mut R, s: &mut Session) -> io::Result<()>

@@ -1,6 +1,7 @@
 // The rate at the days left, exponents and factors.
 
 ghost use Rattle.std.specs.Prelude.{◌≤◌};
+ghost use Rattle.method.specs.words.Growth.{most_exponent};
 ghost use Rattle.method.specs.words.Ranges.{most_days};
 
 use method::Key;
@@ -45,20 +46,21 @@ fn exponents(out: &impl Print) -> io::Result<()> {
     )
 }
 
+// Both factors of an exponent.
+fn both(out: &impl Print, name: &str, y: Billionths) -> io::Result<()>
+    requires { y.0 ≤ most_exponent }
+{
+    let f = growth::factors(y);
+    println!(out; "  y {name}, up: {}", f.up.0)?;
+    println!(out; "  y {name}, down: {}", f.down.0)
+}
+
 fn factors(out: &impl Print) -> io::Result<()> {
     println!(out; "Factors")?;
-    let f = growth::factors(Billionths(100000000));
-    println!(out; "  y 100,000,000, up: {}", f.up.0)?;
-    println!(out; "  y 100,000,000, down: {}", f.down.0)?;
-    let g = growth::factors(Billionths(0));
-    println!(out; "  y 0, up: {}", g.up.0)?;
-    println!(out; "  y 0, down: {}", g.down.0)?;
-    let h = growth::factors(Billionths(1));
-    println!(out; "  y 1, up: {}", h.up.0)?;
-    println!(out; "  y 1, down: {}", h.down.0)?;
-    let k = growth::factors(Billionths(11404109));
-    println!(out; "  y 11,404,109, up: {}", k.up.0)?;
-    println!(out; "  y 11,404,109, down: {}", k.down.0)
+    both(out, "100,000,000", Billionths(100000000))?;
+    both(out, "0", Billionths(0))?;
+    both(out, "1", Billionths(1))?;
+    both(out, "11,404,109", Billionths(11404109))
 }
 
 pub(crate) fn say(out: &impl Print) -> io::Result<()> {

@@ -12,11 +12,13 @@ use corridor::Session;
 use std::io;
 use std::io::{ErrorKind, Read, Write};
 
-// 2,048 events: whole ones, so only the last chunk of an input can end in a cut event.
-const CHUNK_BYTES: usize = 40960;
+const CHUNK_EVENTS: usize = 2048;
 
-// What the answers to a chunk may come to: six numbers a row, a row for each event, and one for each of 16 shifts.
-const CHUNK_NUMBERS: usize = 12384;
+// Whole events, so only the last chunk of an input can end in a cut event.
+const CHUNK_BYTES: usize = 20 * CHUNK_EVENTS;
+
+// What the answers to a chunk may come to: six numbers a row, a row for each event, and one for each shift that may be made.
+const CHUNK_NUMBERS: usize = 6 * (CHUNK_EVENTS + method::MOST_SHIFTS as usize);
 
 // Their text.
 const CHUNK_TEXT: usize = text::BYTES_PER_NUMBER * CHUNK_NUMBERS;

@@ -31,6 +31,7 @@ const NO_FIELD: i64 = 0;
 // A line is made here, and copied once it is whole. `write!` would make it too, but it may answer an error, and no line can fail.
 type LineText = ArrayString<LINE_BYTES>;
 
+// Any number but those of the first three stands for a closing line.
 enum Kind {
     Shift,
     RefusedEvent,
