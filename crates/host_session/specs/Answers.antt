@@ -1,4 +1,4 @@
--- What a host is told, in numbers, of a table and an event, and what stands in its memory then.
+-- What is told of a table and an event, to a host in numbers, and what stands in its memory then.
 use Rattle.std.specs.Prelude.{◌≡◌, List, [], map, ℕ, ℤ, pos, length, Result, Ok, Err}
 use Rattle.method.specs.told.Refusals.{field_number}
 use Rattle.method.specs.told.Rows.{numbers_of}
@@ -9,6 +9,11 @@ use Rattle.host_memory.specs.Memory.{Memory, session_in}
 use Rattle.host_session.specs.Names.{TableRefusal, EventReason, Session}
 
 -- ---- a table
+-- whether it is opened, or its refusal
+abbrev pub opened_or_not : Result Session TableRefusal → Result (Unit {0}) TableRefusal
+opened_or_not (Ok s) = Ok tt
+opened_or_not (Err r) = Err r
+
 -- the line of a refusal, 0 where the table is opened
 abbrev pub line_said : {A : Type 0} → Result A TableRefusal → ℤ
 line_said (Ok opened) = pos 0

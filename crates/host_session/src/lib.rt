@@ -2,9 +2,8 @@
 
 #![tactic(auto)]
 
-ghost use Rattle.std.specs.Prelude.{◌≡◌, pos, ◌<◌, length, get_or, OnErr};
+ghost use Rattle.std.specs.Prelude.{◌≡◌, ◌<◌, length, get_or, OnErr};
 ghost use Rattle.method.specs.words.Types.{blank, session_ids};
-ghost use Rattle.method.specs.told.Refusals.{table_said};
 ghost use Rattle.method.specs.computed.Table.{opening};
 ghost use Rattle.method.specs.computed.Event.{read, with_book, quoted_line};
 ghost use Rattle.pressure.specs.Asks.{JudgeableLine};
@@ -16,40 +15,25 @@ ghost use Rattle.corridor.specs.Engine.{session_after};
 ghost use Rattle.feeding.specs.Quiet.{quiet_until};
 ghost use Rattle.feeding.specs.Feeding.{fed_answer, fed_session, fed_into};
 ghost use Rattle.closing.specs.Closing.{closed, closed_into};
-ghost use Rattle.counting.specs.Counted.{number_in};
 ghost use Rattle.host_memory.specs.Memory.{session_in};
-ghost use Rattle.host_session.specs.Answers.{line_said, field_said, reply_in, made_in, shift_rows};
+ghost use Rattle.host_session.specs.Answers.{opened_or_not, reply_in, made_in, shift_rows};
 
 use arrayvec::ArrayVec;
 use host_memory::Memory;
-use method::{EventReason, Quote, Row};
+use method::{EventReason, Quote, TableRefusal};
 use numbers::Seconds;
+use rows::NoRoom;
 use verdict::Taken;
 
 // Opens a session. After a refused table the memory holds none: what it reads as is then not `Valid`.
-#[tactic(auto, unfolding(method::specs::told::Refusals::table_said, method::specs::told::Rows::row_numbers))]
-pub fn open(session: &mut Memory, table: &[u8], line: &mut i64, field: &mut i64) -> i64
-    ensures number { result ≡ pos (table_said (opened_session (opening table.now))).number }
-    ensures line_after { line.new ≡ line_said (opened_session (opening table.now)) }
-    ensures field_after { field.new ≡ field_said (opened_session (opening table.now)) }
+pub fn open(session: &mut Memory, table: &[u8]) -> Result<(), TableRefusal>
+    ensures answer { result ≡ opened_or_not (opened_session (opening table.now)) }
     ensures session_after { session_in session.new ≡ left_by_open (opening table.now) }
 {
     let opened = corridor::open(table);
     host_memory::kept(session, &opened.unwrap_or_default());
-    match opened {
-        Ok(_) => {
-            *line = 0;
-            *field = 0;
-            0
-        }
-        Err(refusal) => {
-            let row = Row::RefusedTable(refusal.reason, refusal.line);
-            let [_, number, at, place, _, _] = rows::row_numbers(row);
-            *line = at;
-            *field = place;
-            number
-        }
-    }
+    opened?;
+    Ok(())
 }
 
 // By way of the whole session, which is copied out of the memory and back into it.
@@ -147,23 +131,23 @@ pub fn event(session: &mut Memory, bytes: &[u8], out: &mut [i64; 96]) -> Result<
 }
 
 // A buffer of events. Where the room is not there, nothing is done.
-pub fn feed(session: &mut Memory, events: &[u8], out: &mut [i64]) -> usize
+pub fn feed(session: &mut Memory, events: &[u8], out: &mut [i64]) -> Result<usize, NoRoom>
     requires { Valid (session_in session.old) }
-    ensures count { result ≡ number_in (fed_answer (session_in session.old) (length out.old) events.now) }
+    ensures value { result ≡ fed_answer (session_in session.old) (length out.old) events.now }
     ensures out_after { out.new ≡ fed_into (session_in session.old) out.old events.now }
     ensures session_after { session_in session.new ≡ fed_session (session_in session.old) (length out.old) events.now }
 {
     let mut taken = host_memory::taken(session);
     let answer = feeding::feed(&mut taken, events, out);
     host_memory::kept(session, &taken);
-    counting::number_in(answer)
+    answer
 }
 
 // The closing rows. Where the room is not there, nothing is written.
-pub fn close(session: &Memory, out: &mut [i64]) -> usize
+pub fn close(session: &Memory, out: &mut [i64]) -> Result<usize, NoRoom>
     requires { Valid (session_in session.now) }
-    ensures count { result ≡ number_in (closed (session_in session.now) (length out.old)) }
+    ensures value { result ≡ closed (session_in session.now) (length out.old) }
     ensures out_after { out.new ≡ closed_into (session_in session.now) out.old }
 {
-    counting::number_in(closing::close(&host_memory::taken(session), out))
+    closing::close(&host_memory::taken(session), out)
 }
