@@ -1,7 +1,8 @@
 -- What a host is told of memory that it may have damaged, and of memory in which a table was opened or refused.
 use Rattle.std.specs.Prelude.{◌≡◌, List, ℕ, ℤ, pos}
 use Rattle.method.specs.told.Refusals.{table_said}
-use Rattle.corridor.specs.View.{Valid}
+use Rattle.method.specs.computed.Table.{opening}
+use Rattle.corridor.specs.View.{left_by_open, Valid}
 use Rattle.corridor.specs.Handed.{opened_by}
 use Rattle.host_memory.specs.Memory.{Memory, session_in}
 
@@ -22,6 +23,6 @@ Tells memory sound broken = (Valid (session_in memory) → sound) × ((Valid (se
 -- `damaged_count` with everything as it was. So a refused table opens no session in the memory either. [tells_after_open]
 abbrev pub TellsAfterOpen : Type 1
 TellsAfterOpen =
-    (table : List ℕ) (number : ℤ) (memory : Memory) → number ≡ pos (table_said (opened_by table).answer).number
-    → session_in memory ≡ (opened_by table).session → (sound broken : Type 0) → Tells memory sound broken
+    (table : List ℕ) (number : ℤ) (memory : Memory) → number ≡ pos (table_said (opened_by table)).number
+    → session_in memory ≡ left_by_open (opening table) → (sound broken : Type 0) → Tells memory sound broken
     → (number ≡ pos 0 → sound) × ((number ≡ pos 0 → ⊥) → broken)
