@@ -71,16 +71,11 @@ no_holds = record { up = None; down = None }
 -- what is read past the last line
 abbrev pub blank : Line
 blank =
+    let z : Steps = steps (pos 0) in
     record {
-      terms =
-          record {
-            id = 0;
-            flags = 0;
-            halfmove = steps (pos 0);
-            factors = record { up = billionths 0; down = billionths 0 };
-          };
-      market = record { centre = steps (pos 0); half1 = steps (pos 0); half2 = steps (pos 0); half3 = steps (pos 0) };
-      limits = record { upper = steps (pos 0); lower = steps (pos 0); frozen = false };
+      terms = record { id = 0; flags = 0; halfmove = z; factors = record { up = billionths 0; down = billionths 0 } };
+      market = record { centre = z; half1 = z; half2 = z; half3 = z };
+      limits = record { upper = z; lower = z; frozen = false };
       book = empty_book;
       holds = no_holds;
     }
