@@ -14,10 +14,6 @@ number row i = get_or row i (pos 0)
 abbrev pub field : List ℤ → ℕ → List ℕ
 field row i = signed_text (number row i)
 
-abbrev pub sign : ℤ → List ℕ
-sign (pos n) = []
-sign (negsuc n) = ascii "-"
-
 abbrev pub letter : ℤ → List ℕ
 letter side = cond (is side 0) (ascii "U") (ascii "D")
 
