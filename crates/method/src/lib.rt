@@ -49,6 +49,8 @@ pub struct Contract {
 }
 
 // ---- a line: five records, each changed by one kind of thing
+// Factors, holds and watches are records of their own, though each has an up and a down: the definitions name them so, and no function treats
+// two of them alike.
 
 #[derive(Clone, Copy, Default, PartialEq, Eq, PartialOrd, Ord)]
 pub enum Side {
@@ -235,7 +237,7 @@ pub struct Closing {
     pub upperbound: Steps,
 }
 
-// A refused event has its place in the buffer, counted from 1.
+// A refused event has its place in the buffer, counted from 1. A refused table has its reason and its line apart, as the definitions name them.
 #[derive(Clone, Copy)]
 pub enum Row {
     Shift(ShiftLine),

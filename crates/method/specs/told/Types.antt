@@ -10,9 +10,6 @@ pub use Rattle.method.specs.declared.Report.{Report}
 pub use Rattle.method.specs.declared.Closing.{Closing}
 pub use Rattle.method.specs.declared.Row.{Row}
 
-abbrev pub TableAnswer : Type 0
-TableAnswer = Result (Unit {0}) TableRefusal
-
 abbrev pub LimitsAnswer : Type 0
 LimitsAnswer = Result Limits EventReason
 
