@@ -51,32 +51,6 @@ fn by_value(session: &mut Memory, bytes: &[u8], out: &mut [i64; 96]) -> Result<u
     Ok(shifts.len())
 }
 
-// The ids of the lines in their order.
-fn ids(session: &Memory) -> ArrayVec<u32, 32>
-    requires { Valid (session_in session.now) }
-    ensures { result.items ≡ session_ids (view (session_in session.now)) }
-{
-    let mut ids = ArrayVec::new();
-    for pair in host_memory::lines(session) {
-        ids.push(host_memory::id(pair));
-    }
-    ids
-}
-
-// The second before which no hold falls due, whatever the event.
-#[tactic(auto, unfolding(due::specs::Quiet::until_all))]
-fn quiet_until(session: &Memory) -> Seconds
-    requires { Valid (session_in session.now) }
-    ensures { result ≡ quiet_until (view (session_in session.now)) }
-{
-    let hold = host_memory::head(session).hold;
-    let mut quiet = Seconds(u32::MAX);
-    for pair in host_memory::lines(session) {
-        quiet = due::until(quiet, hold, host_memory::holds(pair));
-    }
-    quiet
-}
-
 // A quote on the line at its place.
 #[tactic(auto, unfolding(method::specs::computed::Event::quoted_line, method::specs::computed::Judge::judge_line))]
 fn quoted(session: &mut Memory, place: usize, q: Quote)
@@ -103,14 +77,24 @@ fn applied(session: &mut Memory, v: Taken)
     host_memory::with_clock(session, v.time);
 }
 
-// What becomes of an event.
-fn screened(session: &Memory, bytes: &[u8]) -> Result<Taken, EventReason>
+// What becomes of an event, and the second before which no hold falls due, whatever the event. One walk over the lines sees to both: two
+// would cost each event more, and so would a vector of ids that a function of its own hands back.
+#[tactic(auto, unfolding(due::specs::Quiet::until_all))]
+fn looked(session: &Memory, bytes: &[u8]) -> (Result<Taken, EventReason>, Seconds)
     requires { Valid (session_in session.now) }
-    ensures { result ≡ decided (session_ids (view (session_in session.now))) (session_in session.now).end
+    ensures taken { result.0 ≡ decided (session_ids (view (session_in session.now))) (session_in session.now).end
         (session_in session.now).clock (read bytes.now) }
+    ensures quiet { result.1 ≡ quiet_until (view (session_in session.now)) }
 {
     let head = host_memory::head(session);
-    verdict::screen(&ids(session), 0, head.end, head.clock, events::read(bytes))
+    let mut ids = ArrayVec::<u32, 32>::new();
+    let mut quiet = Seconds(u32::MAX);
+    for pair in host_memory::lines(session) {
+        ids.push(host_memory::id(pair));
+        quiet = due::until(quiet, head.hold, host_memory::holds(pair));
+    }
+    let taken = verdict::screen(&ids, 0, head.end, head.clock, events::read(bytes));
+    (taken, quiet)
 }
 
 // One event, where the session lies: how many shift lines there are. Only where a hold falls due by its second is the session taken out of
@@ -122,8 +106,9 @@ pub fn event(session: &mut Memory, bytes: &[u8], out: &mut [i64; 96]) -> Result<
     ensures session_after { session_in session.new ≡ session_after (session_in session.old) bytes.now }
     ensures untouched { OnErr result (session.new ≡ session.old) }
 {
-    let taken = screened(session, bytes)?;
-    if quiet_until(session) <= taken.time {
+    let (screened, quiet) = looked(session, bytes);
+    let taken = screened?;
+    if quiet <= taken.time {
         return by_value(session, bytes, out);
     }
     applied(session, taken);

@@ -19,7 +19,7 @@ use Rattle.host_session.proofs.event.Goals.{In_err-taken, Else-le}
 
 -- ---- refused
 refusal : (c : In_err-taken) → answer (view (session_in c.args.session.now)) (read c.args.bytes.now) ≡ refused c.in_err-taken.field-0.0
-refusal c = let s = session_in c.args.session.now in refused-is s (read c.args.bytes.now) _ (session_says s refl refl c.in_err-taken.ensures)
+refusal c = let s = session_in c.args.session.now in refused-is s (read c.args.bytes.now) _ (session_says s refl refl (sym c.in_err-taken.was ∙ c.looked-screened.ensures.taken))
 
 told : (c : In_err-taken) → Err c.in_err-taken.field-0.0 ≡ reply_in c.args.session.now c.args.bytes.now
 told c = refused-told (session_in c.args.session.now) c.args.bytes.now _ (refusal c)
@@ -37,10 +37,10 @@ returns-in_err-taken-clause-session_after c =
 
 -- ---- taken, with nothing due
 takes : (c : Else-le) → Takes (view (session_in c.args.session.now)) (read c.args.bytes.now) c.in_ok-taken.taken
-takes c = session_says (session_in c.args.session.now) refl refl c.in_ok-taken.ensures
+takes c = session_says (session_in c.args.session.now) refl refl (sym c.in_ok-taken.was ∙ c.looked-screened.ensures.taken)
 
 due-none : (c : Else-le) → served_by c.in_ok-taken.taken.time (view (session_in c.args.session.now)) ≡ []
-due-none c = nothing-due (session_in c.args.session.now) c.in_ok-taken.taken.time _ c.requires c.quiet_until.ensures (sym c.if-le.false ∙ c.le.ensures)
+due-none c = nothing-due (session_in c.args.session.now) c.in_ok-taken.taken.time _ c.requires c.looked-screened.ensures.quiet (sym c.if-le.false ∙ c.le.ensures)
 
 serves : (c : Else-le) → session_in c.args.session.now ≡ served_as (session_in c.args.session.now) (served_by c.in_ok-taken.taken.time (view (session_in c.args.session.now)))
 serves c = idle (session_in c.args.session.now) c.in_ok-taken.taken.time c.requires (due-none c)
