@@ -2,7 +2,7 @@
 
 #![tactic(auto)]
 
-ghost use Rattle.std.specs.Prelude.{◌≡◌, map, ◌+◌, ◌*◌, ◌≤◌, pos, length};
+ghost use Rattle.std.specs.Prelude.{◌≡◌, Ok, Err, cond, map, ◌+◌, ◌*◌, ◌≤◌, ltb, pos, length};
 ghost use Rattle.method.specs.told.Refusals.{table_number, field_number, event_number};
 ghost use Rattle.method.specs.told.Rows.{row_numbers, numbers_of};
 ghost use Rattle.rows.specs.Buffer.{written, needed};
@@ -14,6 +14,17 @@ use method::{EventReason, Row, ShiftLine, TableReason};
 #[derive(Clone, Copy, PartialEq, Eq)]
 pub struct NoRoom {
     pub needed: usize,
+}
+
+// Whether so many numbers fit; where not, why nothing is done.
+pub fn room(out: &[i64], needed: usize) -> Result<(), NoRoom>
+    ensures { result ≡ cond (ltb (length out.now) needed) (Err (record { needed = needed })) (Ok tt) }
+{
+    if out.len() < needed {
+        Err(NoRoom { needed })
+    } else {
+        Ok(())
+    }
 }
 
 // What `as` gives, under the name that the hosts' answers go by.
