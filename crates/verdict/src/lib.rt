@@ -87,7 +87,9 @@ fn placed(ids: &[u32], guess: u8, quote: Quote) -> Result<PlacedQuote, EventReas
     }
 }
 
-// What becomes of an event in a session of these ids, this end and this clock; with a guess at the place of a quote's line.
+// What becomes of an event in a session of these ids, this end and this clock; with a guess at the place of a quote's line. It is made part
+// of its callers, since what it answers is large, and handing it back costs each event.
+#[inline(always)]
 #[tactic(auto, unfolding(method::specs::computed::Event::screened, method::specs::computed::Event::in_session))]
 pub fn screen(
     ids: &[u32],
