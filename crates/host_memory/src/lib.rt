@@ -16,9 +16,11 @@ use numbers::Seconds;
 use std::array;
 
 // Each line has a pair of rows, and after them the head has one.
-const LINES: usize = 32;
+const LINES: usize = method::MOST_CONTRACTS as usize;
 
-pub type Memory = [Pair; 33];
+// An array and no type of its own: C lends it, and any numbers may stand in it. So that they read as a session is a clause (`Valid`) wherever
+// it is asked.
+pub type Memory = [Pair; LINES + 1];
 
 // How many numbers a session takes.
 pub fn numbers() -> usize

@@ -9,6 +9,7 @@ ghost use Rattle.host_report.specs.ReportRows.{hold_told, price_told, limit_row,
 use method::{Book, BothBounds, HoldTimes, Limits, Price, Report};
 use numbers::{Seconds, Steps};
 
+// The library's conversion, under the name that docs/PROMISES.md promises it by.
 pub fn mark_number(b: bool) -> i64
     ensures { result ≡ mark b }
 {

@@ -6,7 +6,6 @@
 
 use numbers::{Millionths, Seconds};
 
-// Functions and no `From`: neither a row nor a line is a type of this crate, so that only a head could have one.
 pub mod reading;
 pub mod writing;
 
@@ -15,7 +14,9 @@ pub type Row = [u64; 16];
 // A line's two rows.
 pub type Pair = [Row; 2];
 
-// The head of a session: what it has beside its lines, in a row of its own.
+// The head of a session: what it has beside its lines, in a row of its own. A `Session` has these as fields of its own and no `Head` within:
+// its definitions (`view`, `put`) and docs/PROMISES.md name them so. Only a head could have a `From`: a row and a line are no types of this
+// crate, so that all have functions.
 #[derive(Clone, Copy)]
 pub struct Head {
     pub count: usize,

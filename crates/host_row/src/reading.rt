@@ -35,7 +35,8 @@ fn signed(n: u64) -> Steps
     }
 }
 
-// A price and a hold are one call each of the library's generic function, so that a generic one of our own would be no plainer; so in writing.
+// A price and a hold are a number that says whether they are there, and another: a type with an enum does not go to C. Each is one call of the
+// library's generic function, so that a generic one of our own would be no plainer; so in writing.
 #[tactic(auto, unfolding(crate::specs::Packed::price_in))]
 fn price(there: u64, n: u64) -> Price
     ensures { result ≡ price_in there n }

@@ -99,12 +99,22 @@ pub fn rows(l: &Line) -> Pair
 pub fn head_row(h: Head) -> Row
     ensures { head_in result ≡ h }
 {
-    let mut row: Row = [0; 16];
-    row[0] = h.count as u64;
-    row[1] = u64::from(h.clock.0);
-    row[2] = u64::from(h.end.0);
-    row[3] = u64::from(h.hold.0);
-    row[4] = u64::from(h.left);
-    row[5] = u64::from(h.near.0);
-    row
+    [
+        h.count as u64,
+        u64::from(h.clock.0),
+        u64::from(h.end.0),
+        u64::from(h.hold.0),
+        u64::from(h.left),
+        u64::from(h.near.0),
+        0,
+        0,
+        0,
+        0,
+        0,
+        0,
+        0,
+        0,
+        0,
+        0,
+    ]
 }
