@@ -35,7 +35,8 @@ fn lines(session: &Memory) -> bool
     ))
 }
 
-// No id twice, and no hold that is due by the clock.
+// No id twice, and no hold that is due by the clock. The walk is that of a session's `next_due`, over pairs of rows; the ids are gathered on
+// the way, so that the memory is gone over once.
 #[tactic(auto, unfolding(method::specs::computed::Search::earliest))]
 fn together(session: &Memory) -> bool
     requires { BesideIn (session_in session.now) × LinesIn (session_in session.now) }

@@ -19,7 +19,8 @@ fn hold_of(side: Side, h: Holds) -> Hold
     }
 }
 
-// Where no shift is left no hold stands, and no price is looked at.
+// Where no shift is left no hold stands, and no price is looked at. What pressure asks of a line is a clause and no type of it: any numbers may
+// stand on a line, and its ranges are tested just before.
 fn exact_on(side: Side, near: Millionths, left: u32, l: Line) -> bool
     requires { JudgeableLine near l }
     ensures { Decides result (standing (hold_of side l.holds) ≡ (ltb 0 left && presses side near l)) }

@@ -16,8 +16,8 @@ mod exact;
 mod room;
 
 // Its ranges, and holds exactly where it presses. Pressure is worked out only once the ranges are known. The near share, the shifts left and
-// the most that may still be made, by which the ranges go, are those of its session, which are in range: three numbers, as the method's
-// definitions take them, which a struct would only take apart again.
+// the most that may still be made, by which the ranges go, are those of its session, which are in range. They are three numbers, as the
+// method's definitions take them: a struct would be taken apart at once.
 pub fn line(near: Millionths, left: u32, most: u32, l: Line) -> bool
     requires { (most ≤ most_shifts) × (near.0 ≤ largest_near_share) }
     ensures { Decides result (Room most l × Exact near left l) }

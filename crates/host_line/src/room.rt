@@ -81,14 +81,14 @@ fn floor(k: Limits, flags: u32) -> bool
     }
 }
 
-// The numbers are compared and not the steps, whose derived order is slower.
+// The numbers are compared and not the steps: a range of steps tested so is slower, measured.
 fn between(low: Steps, high: Steps, z: Steps) -> bool
     ensures { Decides result (Span low.0 high.0 z.0) }
 {
     (low.0..=high.0).contains(&z.0)
 }
 
-// Both limits between the interest bounds, and in their order.
+// Both limits between the interest bounds, and in their order. What bounds are drawn from is in range by the tests before, which no type says.
 fn limits(t: Terms, m: Market, k: Limits) -> bool
     requires { Drawn t.factors m }
     ensures { Decides result (LimitsRoom t m k) }
