@@ -51,7 +51,12 @@ fn by_value(session: &mut Memory, bytes: &[u8], out: &mut [i64; 96]) -> Result<u
     Ok(shifts.len())
 }
 
-// A quote on the line at its place.
+// `looked` and `applied` do what a `Session` does for itself, where the lines lie as pairs of rows. A pair is an array, since C lends it, so no
+// trait of a lower crate can be said of it; and of a pair the walk reads the numbers that it wants and no more, which is why an event is not
+// taken by way of a `Session`. That each asks `Valid` of what the memory reads as, `host_memory` explains at `Memory`.
+
+// A quote on the line at its place. What it asks of that line is a clause and no type of its own: a line comes out of a host's memory, where
+// any numbers may stand.
 #[tactic(auto, unfolding(method::specs::computed::Event::quoted_line, method::specs::computed::Judge::judge_line))]
 fn quoted(session: &mut Memory, place: usize, q: Quote)
     requires { (place < 32)
@@ -61,8 +66,12 @@ fn quoted(session: &mut Memory, place: usize, q: Quote)
         (get_or (session_in session.old).lines place blank)) }
 {
     let head = host_memory::head(session);
-    let line = host_memory::line_at(session, place);
-    let line = shifts::quoted_line(head.near, head.left, q, line);
+    let line = shifts::quoted_line(
+        head.near,
+        head.left,
+        q,
+        host_memory::line_at(session, place),
+    );
     host_memory::with_judged(session, place, &line);
 }
 
@@ -77,8 +86,8 @@ fn applied(session: &mut Memory, v: Taken)
     host_memory::with_clock(session, v.time);
 }
 
-// What becomes of an event, and the second before which no hold falls due, whatever the event. One walk over the lines sees to both: two
-// would cost each event more, and so would a vector of ids that a function of its own hands back.
+// What becomes of an event, by the ids, the end and the clock alone, and the second before which no hold falls due, whatever the event. One
+// walk over the lines sees to both: two would cost each event more, and so would a vector of ids that a function of its own hands back.
 #[tactic(auto, unfolding(due::specs::Quiet::until_all))]
 fn looked(session: &Memory, bytes: &[u8]) -> (Result<Taken, EventReason>, Seconds)
     requires { Valid (session_in session.now) }
