@@ -1,1 +1,2 @@
 pub mod AfterOpen
+pub mod Told

@@ -23,7 +23,8 @@ ghost use Rattle.host_session.specs.Answers.{line_said, field_said, reply_in, ma
 ghost use Rattle.host.specs.Checked.{damaged, damaged_count, Tells};
 
 use host_memory::Memory;
-use method::Row;
+use method::{EventReason, Limits, Place, Report, Row};
+use numbers::Steps;
 
 // What C is told of damaged memory: no refusal of the method has this number.
 const DAMAGED: i64 = 99;
@@ -62,8 +63,52 @@ pub fn sundewcup_open(session: &mut Memory, table: &[u8], line: &mut i64, field:
     }
 }
 
-// Each function from here on has the test in its own body: of a closure that one test for all would be handed, no proof knows what it leaves
-// in the buffers that it captures.
+// The answers to questions, in numbers: 0, or the refusal's number, and then nothing is written.
+
+// The lower and the upper limit, and whether the lower one is frozen.
+#[tactic(auto, using(crate::proofs::Told::told_into_refused), unfolding(method::specs::told::Refusals::limits_said))]
+fn limits_number(answer: Result<Limits, EventReason>, out: &mut [i64; 3]) -> i64
+    ensures number { result ≡ pos (limits_said answer).number }
+    ensures out_after { out.new ≡ told_into out.old (limits_said answer) }
+{
+    match answer {
+        Ok(k) => {
+            *out = [k.lower.0, k.upper.0, host_report::mark_number(k.frozen)];
+            0
+        }
+        Err(why) => rows::event_number(why),
+    }
+}
+
+// Below -1, inside 0, above 1.
+fn place_number(answer: Result<Place, EventReason>) -> i64
+    ensures { result ≡ place_number answer }
+{
+    match answer {
+        Ok(Place::Below) => -1,
+        Ok(Place::Inside) => 0,
+        Ok(Place::Above) => 1,
+        Err(why) => rows::event_number(why),
+    }
+}
+
+// All that stands on a line, in four rows.
+#[tactic(auto, unfolding(method::specs::told::Refusals::report_said))]
+fn report_number(answer: Result<Report, EventReason>, out: &mut [[i64; 6]; 4]) -> i64
+    ensures number { result ≡ pos (report_said answer).number }
+    ensures out_after { out.new ≡ report_into out.old answer }
+{
+    match answer {
+        Ok(r) => {
+            *out = host_report::report_rows(r);
+            0
+        }
+        Err(why) => rows::event_number(why),
+    }
+}
+
+// Each function from here on has the test in its own body. One test for all would be handed the rest as a closure, and of a closure no proof
+// knows what it leaves in the buffers that it captures.
 
 // Whether the memory has a session: 0, or the number of a damaged one.
 pub fn sundewcup_check(session: &Memory) -> i64
@@ -165,7 +210,7 @@ pub fn sundewcup_limits(session: &Memory, id: u32, out: &mut [i64; 3]) -> i64
         (out.new ≡ out.old) }
 {
     if host_intact::sound(session) {
-        host_questions::limits(session, id, out)
+        limits_number(host_questions::limits(session, id), out)
     } else {
         DAMAGED
     }
@@ -179,7 +224,7 @@ pub fn sundewcup_report(session: &Memory, id: u32, out: &mut [[i64; 6]; 4]) -> i
         (out.new ≡ out.old) }
 {
     if host_intact::sound(session) {
-        host_questions::report(session, id, out)
+        report_number(host_questions::report(session, id), out)
     } else {
         DAMAGED
     }
@@ -190,7 +235,7 @@ pub fn sundewcup_place(session: &Memory, id: u32, price: i64) -> i64
         (result ≡ place_number (place id (steps price) (view (session_in session.now)))) (result ≡ damaged) }
 {
     if host_intact::sound(session) {
-        host_questions::place(session, id, price)
+        place_number(host_questions::place(session, id, Steps(price)))
     } else {
         DAMAGED
     }
@@ -201,5 +246,5 @@ pub fn sundewcup_place_unchecked(session: &Memory, id: u32, price: i64) -> i64
     requires { Valid (session_in session.now) }
     ensures { result ≡ place_number (place id (steps price) (view (session_in session.now))) }
 {
-    host_questions::place(session, id, price)
+    place_number(host_questions::place(session, id, Steps(price)))
 }

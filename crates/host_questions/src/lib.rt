@@ -3,18 +3,15 @@
 
 #![tactic(auto)]
 
-ghost use Rattle.std.specs.Prelude.{◌≡◌, pos};
-ghost use Rattle.method.specs.words.Types.{steps};
-ghost use Rattle.method.specs.told.Refusals.{limits_said, report_said};
+ghost use Rattle.std.specs.Prelude.{◌≡◌};
 ghost use Rattle.method.specs.told.Questions.{limits, place};
 ghost use Rattle.method.specs.told.Report.{report};
 ghost use Rattle.corridor.specs.View.{view, Valid};
 ghost use Rattle.host_memory.specs.Memory.{session_in};
-ghost use Rattle.host_questions.specs.AskedNumbers.{told_into, place_number, report_into};
 
 use host_memory::Memory;
 use host_row::reading;
-use method::{Line, Place, Report};
+use method::{EventReason, Limits, Line, Place, Report};
 use numbers::Steps;
 use questions::Asked;
 
@@ -38,47 +35,26 @@ impl Asked for Lent<'_> {
     }
 }
 
-// The lower and the upper limit, and whether the lower one is frozen.
-#[tactic(auto, using(crate::proofs::Told::told_into_refused), unfolding(method::specs::told::Refusals::limits_said))]
-pub fn limits(session: &Memory, id: u32, out: &mut [i64; 3]) -> i64
+// The limits of a line.
+pub fn limits(session: &Memory, id: u32) -> Result<Limits, EventReason>
     requires { Valid (session_in session.now) }
-    ensures number { result ≡ pos (limits_said (limits id (view (session_in session.now)))).number }
-    ensures out_after { out.new ≡ told_into out.old (limits_said (limits id (view (session_in session.now)))) }
+    ensures { result ≡ limits id (view (session_in session.now)) }
 {
-    match questions::limits(&Lent(session), id) {
-        Ok(k) => {
-            *out = [k.lower.0, k.upper.0, host_report::mark_number(k.frozen)];
-            0
-        }
-        Err(why) => rows::event_number(why),
-    }
+    questions::limits(&Lent(session), id)
 }
 
-// Where an order price lies: below -1, inside 0, above 1; or the refusal's number.
-pub fn place(session: &Memory, id: u32, price: i64) -> i64
+// Where an order price lies.
+pub fn place(session: &Memory, id: u32, price: Steps) -> Result<Place, EventReason>
     requires { Valid (session_in session.now) }
-    ensures { result ≡ place_number (place id (steps price) (view (session_in session.now))) }
+    ensures { result ≡ place id price (view (session_in session.now)) }
 {
-    match questions::place(&Lent(session), id, Steps(price)) {
-        Ok(Place::Below) => -1,
-        Ok(Place::Inside) => 0,
-        Ok(Place::Above) => 1,
-        Err(why) => rows::event_number(why),
-    }
+    questions::place(&Lent(session), id, price)
 }
 
 // All that stands on a line.
-#[tactic(auto, unfolding(method::specs::told::Refusals::report_said))]
-pub fn report(session: &Memory, id: u32, out: &mut [[i64; 6]; 4]) -> i64
+pub fn report(session: &Memory, id: u32) -> Result<Report, EventReason>
     requires { Valid (session_in session.now) }
-    ensures number { result ≡ pos (report_said (report id (view (session_in session.now)))).number }
-    ensures out_after { out.new ≡ report_into out.old (report id (view (session_in session.now))) }
+    ensures { result ≡ report id (view (session_in session.now)) }
 {
-    match questions::report(&Lent(session), id) {
-        Ok(r) => {
-            *out = host_report::report_rows(r);
-            0
-        }
-        Err(why) => rows::event_number(why),
-    }
+    questions::report(&Lent(session), id)
 }
