@@ -14,7 +14,7 @@ use method::EventReason;
 use verdict::Taken;
 
 impl Session {
-    // The ids of the lines in their order, which is all that the screen asks of a session.
+    // The ids of the lines in their order, which is all that the screen asks of a session. By `push`: an `ArrayVec` has no `collect`.
     pub fn ids(&self) -> ArrayVec<u32, 32>
         requires { Valid self.now }
         ensures { result.items ≡ session_ids (view self.now) }

@@ -15,7 +15,7 @@ pub mod serving;
 
 // The table's lines stand in the first `count` places, in its order. `left` is how many shifts may still be made.
 // An array with its count, and no `ArrayVec` and no invariant: a session is read from a host's memory, where any number may stand, so each
-// function asks that it is `Valid`.
+// function asks that it is `Valid`. The one by `default` is not: it is `no_session`, which stands in such a memory after a refused table.
 #[derive(Clone, Copy, Default)]
 pub struct Session {
     pub lines: [Line; 32],

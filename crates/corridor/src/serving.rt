@@ -16,9 +16,10 @@ impl Session {
         requires { Ranged self.old × (0 < self.old.left) }
         ensures { self.new ≡ put self.old (shifted side now (view self.old)) }
     {
+        self.left -= 1;
+        // Read ahead of the loan of the lines: while it lasts, no proof may read another field of the session.
         let near = self.near;
-        let left = self.left - 1;
-        self.left = left;
+        let left = self.left;
         for line in &mut self.lines[..self.count] {
             *line = shifts::shift_line(near, left, side, now, *line);
         }

@@ -26,7 +26,7 @@ use Rattle.method.specs.declared.Row.{Row}
 use Rattle.method.proofs.Answers.{next_spend, run-right}
 use Rattle.rows.specs.Buffer.{written}
 use Rattle.rows.specs.Answer.{RowsAnswer, no_room}
-use Rattle.rows.proofs.Buffer.{nothing_written, written_on, written-long, numbers-long, numbers-append}
+use Rattle.rows.proofs.Buffer.{written_on, written-long, numbers-long, numbers-append}
 use Rattle.corridor.specs.declared.Session.{Session}
 use Rattle.corridor.specs.View.{view, put, Valid}
 use Rattle.corridor.specs.Reply.{left_of}
@@ -91,19 +91,6 @@ module _ (o : Session) (b : List ℕ) (out : List ℤ) where
     pub here : now ≡ written out 0 done
     pub long : length done ≡ at
     pub left : at + 6 * ((length rest + 19) / 20 + most_left (view s)) ≤ length out
-
-  pub ahead-start : Valid o → feed_needs (length b) ≤ length out → Ahead o 0 b 0 out
-  ahead-start v h =
-      record {
-        done = [];
-        valid = v;
-        counted = omega arith;
-        answers = refl;
-        session = refl;
-        here = nothing_written out 0;
-        long = refl;
-        left = omega (arith, v.sane.left);
-      }
 
   pub ahead-long : {s : Session} {at : ℕ} {rest : List ℕ} {event : ℕ} {now : List ℤ} → Ahead s at rest event now → length now ≡ length out
   ahead-long h = ap length h.here ∙ written-long out 0 h.done (omega (arith, h.long, h.left))

@@ -27,7 +27,6 @@ use Rattle.corridor.specs.View.{view, Ranged, Valid, moved_on}
 use Rattle.due.specs.Quiet.{until}
 use Rattle.corridor.specs.Reply.{served_as, left_of}
 use Rattle.corridor.specs.Applied.{lines_after}
-use Rattle.feeding.specs.Feeding.{feed_needs}
 use Rattle.corridor.proofs.Views.{view-put, ranged, ranged_length}
 use Rattle.corridor.proofs.Due.{row_passes}
 use Rattle.corridor.proofs.DueServed.{ranged_served}
@@ -37,7 +36,7 @@ use Rattle.corridor.proofs.Saying.{Changes, Takes}
 use Rattle.corridor.proofs.Events.{refused-is, accepted-is, changes_after, event-taken}
 use Rattle.corridor.proofs.Theorems.{valid-event}
 use Rattle.feeding.proofs.Quiet.{Quiet, quiet_start, quiet_serves, quiet_tick, quiet_quoted, idle}
-use Rattle.feeding.proofs.Feeding.{Piece, Ahead, ahead-start, ahead_turn, row_fits, rows_fit}
+use Rattle.feeding.proofs.Feeding.{Piece, Ahead, ahead_turn, row_fits, rows_fit}
 
 -- ---- the holds that are due by t are served: x is the session then, and their rows stand in now' up to at'
 pub record Caught (s : Session) (t : Seconds) (at : ℕ) (now : List ℤ) (x : Session) (quiet : Seconds) (at' : ℕ) (now' : List ℤ) : Type 0 where
@@ -94,9 +93,6 @@ module _ (o : Session) (b : List ℕ) (out : List ℤ) (got : List ℕ) where
     pub named : got ≡ session_ids (view s)
     pub none-due : Quiet quiet (view s)
     pub twenty : size ≡ 20
-
-  pub turn_start : Valid o → feed_needs (length b) ≤ length out → got ≡ session_ids (view o) → Turn o (seconds 0) 0 b 20 0 out
-  turn_start v h e = record { ahead = ahead-start o b out v h; named = e; none-due = quiet_start (view o); twenty = refl }
 
   module _ {s : Session} {quiet : Seconds} {at : ℕ} {rest : List ℕ} {size event : ℕ} {now : List ℤ} (h : Turn s quiet at rest size event now) {piece behind : List ℕ} (c : Piece rest piece behind) where
     abbrev e : ReadEvent

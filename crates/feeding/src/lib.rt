@@ -12,8 +12,6 @@ use method::Row;
 use numbers::Seconds;
 use rows::NoRoom;
 
-const MOST_SHIFTS: usize = method::MOST_SHIFTS as usize;
-
 // For each id a guess at its place, which spares most searches. Nothing hangs on its being right.
 fn guessed(ids: &[u32]) -> [u8; 256]
     requires { length ids.now ≤ 32 }
@@ -25,7 +23,7 @@ fn guessed(ids: &[u32]) -> [u8; 256]
     places
 }
 
-// The second of the hold that goes first; where none stands, one that no event reaches.
+// The second before which no hold falls due, whatever the event; where no hold stands, one that no event reaches.
 fn quiet_until(s: &Session) -> Seconds
     requires { Valid s.now }
     ensures { result ≡ quiet_until (view s.now) }
@@ -46,7 +44,7 @@ pub fn feed(session: &mut Session, events: &[u8], out: &mut [i64]) -> Result<usi
     ensures left { session.new ≡ fed_session session.old (length out.old) events.now }
     ensures out_after { out.new ≡ fed_into session.old out.old events.now }
 {
-    let needed = rows::needed(events.len(), MOST_SHIFTS);
+    let needed = rows::needed(events.len(), method::MOST_SHIFTS as usize);
     if out.len() < needed {
         return Err(NoRoom { needed });
     }
@@ -63,7 +61,7 @@ pub fn feed(session: &mut Session, events: &[u8], out: &mut [i64]) -> Result<usi
                 at += 6;
             }
             Ok(taken) => {
-                if taken.time >= quiet {
+                if quiet <= taken.time {
                     quiet = quiet_until(session);
                 }
                 if quiet <= taken.time {
@@ -72,12 +70,11 @@ pub fn feed(session: &mut Session, events: &[u8], out: &mut [i64]) -> Result<usi
                     quiet = Seconds(0);
                 }
                 if let Some(placed) = taken.change {
-                    let before = session.lines[placed.place];
                     let line = shifts::quoted_line(
                         session.near,
                         session.left,
                         placed.quote,
-                        before,
+                        session.lines[placed.place],
                     );
                     session.lines[placed.place] = line;
                     quiet = due::until(quiet, session.hold, line.holds);

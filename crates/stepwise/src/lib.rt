@@ -11,17 +11,16 @@ use corridor::Session;
 use method::Row;
 use rows::NoRoom;
 
-const MOST_SHIFTS: usize = method::MOST_SHIFTS as usize;
-
 // Each piece goes to the session that the one before it left; a last one that is cut short goes as it is. The room is worked out first:
-// where it is not there, nothing is done.
+// where it is not there, nothing is done. A loop of its own beside `feeding`'s, since it must go by `event` alone: that one, for its speed,
+// keeps a second and guesses from event to event.
 pub fn feed(session: &mut Session, events: &[u8], out: &mut [i64]) -> Result<usize, NoRoom>
     requires { Valid session.old }
     ensures value { result ≡ fed_answer session.old (length out.old) events.now }
     ensures left { session.new ≡ fed_session session.old (length out.old) events.now }
     ensures out_after { out.new ≡ fed_into session.old out.old events.now }
 {
-    let needed = rows::needed(events.len(), MOST_SHIFTS);
+    let needed = rows::needed(events.len(), method::MOST_SHIFTS as usize);
     if out.len() < needed {
         return Err(NoRoom { needed });
     }

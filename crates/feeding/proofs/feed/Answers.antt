@@ -18,7 +18,7 @@ use Rattle.feeding.proofs.Quiet.{Quiet, quiet_first}
 use Rattle.feeding.proofs.Feeding.{Piece, piece_of, all_answer, all_session, all_into, nothing_answer, nothing_session, nothing_into}
 use Rattle.feeding.proofs.Turns.{Caught, caught_none, caught_served, shifts_fit, turn_refused, turn_holds, turn_taken}
 use Rattle.feeding.proofs.feed.Goals as goal
-use Rattle.feeding.proofs.feed.Goals.{In-Some, In-Ok, In-Some-change, Joined-le, then-ge, else-ge, then-le, else-le, in-Some-change, in_default}
+use Rattle.feeding.proofs.feed.Goals.{In-Some, In-Ok, In-Some-change, Joined-le-2, then-le, else-le, then-le-2, else-le-2, in-Some-change, in_default}
 
 -- ---- no room
 pub returns-then-out-needed-clause-value : goal.returns-then-out-needed-clause-value
@@ -64,28 +64,28 @@ loop-event-preserved-in-Err c =
 pub write_shifts-at-requires : goal.write_shifts-at-requires
 write_shifts-at-requires c =
     let q = goal.at.write_shifts-at-requires c in
-    rw (c.deref-then-le.ensures.0, c.served-shifts.ensures.told)
+    rw (c.deref-then-le-2.ensures.0, c.served-shifts.ensures.told)
     (shifts_fit c.args.session.now c.args.events.now c.args.out.now _ c.loop-event.invariant (piece q.In-Some) c.in-Ok.taken (takes q.In-Ok))
 
 over : (x y : ℕ) → false ≡ is_le (nat_cmp x y) → y < x
 over x y h = grind (arith, nat_tests)
 
 -- Before the quiet second nothing is due, also where it was found anew; and once the holds by then are served, it is to be found anew.
-caught : (c : Joined-le) → Caught c.loop-event.session c.in-Ok.taken.time c.loop-event.at c.loop-event.out c.if-le.session c.if-le.quiet c.if-le.at c.if-le.out
+caught : (c : Joined-le-2) → Caught c.loop-event.session c.in-Ok.taken.time c.loop-event.at c.loop-event.out c.if-le-2.session c.if-le-2.quiet c.if-le-2.at c.if-le-2.out
 caught c =
     let at = c.loop-event in
-    let still : Quiet c.if-ge.quiet (view at.session) =
-    elim c.if-ge.branch [
-      | then-ge w ↦ rw (w.quiet-is ∙ w.quiet_until-quiet.ensures) (quiet_first (view at.session))
-      | else-ge w ↦ rw w.quiet-is at.invariant.none-due
-    ] in
+    let still : Quiet c.if-le.quiet (view at.session) =
     elim c.if-le.branch [
-      | then-le w ↦
-          caught_served at.session _ at.at at.out w.deref-then-le.result.now (w.deref-then-le.ensures.0 ∙ w.served-shifts.ensures.told)
+      | then-le w ↦ rw (w.quiet-is ∙ w.quiet_until-quiet.ensures) (quiet_first (view at.session))
+      | else-le w ↦ rw w.quiet-is at.invariant.none-due
+    ] in
+    elim c.if-le-2.branch [
+      | then-le-2 w ↦
+          caught_served at.session _ at.at at.out w.deref-then-le-2.result.now (w.deref-then-le-2.ensures.0 ∙ w.served-shifts.ensures.told)
           (w.session-is ∙ w.served-shifts.ensures.left) (w.out-is ∙ w.write_shifts-at.ensures.out_after) w.quiet-is
           (w.at-is ∙ w.write_shifts-at.ensures.value)
-      | else-le w ↦
-          caught_none at.session _ at.at at.out _ at.invariant.ahead.valid still (over _ _ (sym w.if-le.false ∙ c.le.ensures)) w.out-is w.session-is
+      | else-le-2 w ↦
+          caught_none at.session _ at.at at.out _ at.invariant.ahead.valid still (over _ _ (sym w.if-le-2.false ∙ c.le-in-Ok.ensures)) w.out-is w.session-is
           w.quiet-is w.at-is
     ]
 
@@ -108,12 +108,12 @@ quoted_line-line-requires c =
     let q = (goal.at.quoted_line-line-requires c).In-Some-change in
     let o = changes q in
     quote_asks c.loop-event.session c.in-Ok.taken.time c.in-Some-change.placed.quote c.in-Some-change.placed.place _ c.loop-event.invariant.ahead.valid o.1
-    (quote_in _ c.in-Some-change.placed.quote o.0) (caught (goal.at.quoted_line-line-requires c).Joined-le).served
+    (quote_in _ c.in-Some-change.placed.quote o.0) (caught (goal.at.quoted_line-line-requires c).Joined-le-2).served
 
 pub until-quiet-requires : goal.until-quiet-requires
 until-quiet-requires c =
     let q = goal.at.until-quiet-requires c in
-    turn_holds c.args.session.now c.args.events.now c.args.out.now _ c.loop-event.invariant (piece q.In-Some) _ (takes q.In-Ok) (caught q.Joined-le)
+    turn_holds c.args.session.now c.args.events.now c.args.out.now _ c.loop-event.invariant (piece q.In-Some) _ (takes q.In-Ok) (caught q.Joined-le-2)
     c.in-Some-change.placed c.in-Some-change.is _ c.quoted_line-line.ensures
 
 -- ---- an event that is taken: the next turn
@@ -122,16 +122,16 @@ pub loop-event-preserved : goal.loop-event-preserved
 loop-event-preserved c =
     let q = goal.at.loop-event-preserved c in
     let s = c.in-Some.ensures.steps in
-    let x = c.if-le.session in
+    let x = c.if-le-2.session in
     let t = c.in-Ok.taken.time in
     let then =
-    turn_taken c.args.session.now c.args.events.now c.args.out.now _ c.loop-event.invariant (piece q.In-Some) c.in-Ok.taken (takes q.In-Ok) (caught q.Joined-le) in
+    turn_taken c.args.session.now c.args.events.now c.args.out.now _ c.loop-event.invariant (piece q.In-Some) c.in-Ok.taken (takes q.In-Ok) (caught q.Joined-le-2) in
     rw (s.0.0, s.2)
     (elim c.match-taken.branch [
       | in-Some-change w ↦
           let line : Line → Session = λ l. moved_on x (set x.lines w.in-Some-change.placed.place l) t in
           then (Some w.in-Some-change.placed) w.in-Some-change.is _ (ap (λ (z : Session). moved_on z z.lines t) w.session-is ∙ ap line w.quoted_line-line.ensures) _
-          (w.quiet-is ∙ w.until-quiet.ensures ∙ ap (λ (l : Line). until c.if-le.quiet x.hold l.holds) w.quoted_line-line.ensures)
+          (w.quiet-is ∙ w.until-quiet.ensures ∙ ap (λ (l : Line). until c.if-le-2.quiet x.hold l.holds) w.quoted_line-line.ensures)
       | in_default w ↦ then None w.in_default.is _ (ap (λ (z : Session). moved_on z z.lines t) w.session-is) _ w.quiet-is
     ])
 
