@@ -18,9 +18,7 @@ pub fn close(s: &Session, out: &mut [i64]) -> Result<usize, NoRoom>
 {
     let lines = &s.lines[..s.count];
     let needed = 6 * lines.len();
-    if out.len() < needed {
-        return Err(NoRoom { needed });
-    }
+    rows::room(out, needed)?;
     for (i, l) in lines.iter().enumerate() {
         rows::write(out, 6 * i, line_answers::closing_row(*l));
     }

@@ -45,9 +45,7 @@ pub fn feed(session: &mut Session, events: &[u8], out: &mut [i64]) -> Result<usi
     ensures out_after { out.new ≡ fed_into session.old out.old events.now }
 {
     let needed = rows::needed(events.len(), method::MOST_SHIFTS as usize);
-    if out.len() < needed {
-        return Err(NoRoom { needed });
-    }
+    rows::room(out, needed)?;
     let ids = session.ids();
     let guesses = guessed(&ids);
     let mut quiet = Seconds(0);

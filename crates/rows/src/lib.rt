@@ -2,7 +2,7 @@
 
 #![tactic(auto)]
 
-ghost use Rattle.std.specs.Prelude.{◌≡◌, Ok, Err, cond, map, ◌+◌, ◌*◌, ◌≤◌, ltb, pos, length};
+ghost use Rattle.std.specs.Prelude.{◌≡◌, IfOk, IfErr, map, ◌+◌, ◌*◌, ◌≤◌, ◌<◌, pos, length};
 ghost use Rattle.method.specs.told.Refusals.{table_number, field_number, event_number};
 ghost use Rattle.method.specs.told.Rows.{row_numbers, numbers_of};
 ghost use Rattle.rows.specs.Buffer.{written, needed};
@@ -18,7 +18,8 @@ pub struct NoRoom {
 
 // Whether so many numbers fit; where not, why nothing is done.
 pub fn room(out: &[i64], needed: usize) -> Result<(), NoRoom>
-    ensures { result ≡ cond (ltb (length out.now) needed) (Err (record { needed = needed })) (Ok tt) }
+    ensures fits { IfOk result (λ u. needed ≤ length out.now) }
+    ensures short { IfErr result (λ e. (e.needed ≡ needed) × (length out.now < needed)) }
 {
     if out.len() < needed {
         Err(NoRoom { needed })

@@ -20,9 +20,7 @@ pub fn run(table: &[u8], events: &[u8], out: &mut [i64]) -> Result<usize, NoRoom
     ensures out_after { out.new ≡ ran_into out.old table.now events.now }
 {
     let needed = rows::needed(events.len(), MOST_ROWS);
-    if out.len() < needed {
-        return Err(NoRoom { needed });
-    }
+    rows::room(out, needed)?;
     match corridor::open(table) {
         Err(refused) => {
             rows::write(out, 0, Row::RefusedTable(refused.reason, refused.line));

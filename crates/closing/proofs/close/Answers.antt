@@ -20,13 +20,13 @@ closing_row-requires c =
 
 pub write-requires : goal.write-requires
 unfolding closing_row
-write-requires c = (omega arith, subst Fits (sym c.closing_row.ensures) tt)
+write-requires c = (omega (arith, c.in_ok-room.ensures.fits), subst Fits (sym c.closing_row.ensures) tt)
 
 pub loop-i-preserved : goal.loop-i-preserved
 loop-i-preserved c =
     let at = c.loop-i in
     let lines = (view c.args.s.now).lines in
-    let room : 0 + 6 * (at.i + 1) ≤ length c.args.out.now = omega arith in
+    let room : 0 + 6 * (at.i + 1) ≤ length c.args.out.now = omega (arith, c.in_ok-room.ensures.fits) in
     let here : 6 * at.i ≡ 0 + 6 * at.i = omega arith in
     let wrote = c.write.ensures ∙ ap (λ (r : Row). written at.out (6 * at.i) (row_numbers r)) c.closing_row.ensures
     ∙ ap (λ (k : ℕ). written at.out k (row_numbers (closing_row (get_or lines at.i blank)))) here in

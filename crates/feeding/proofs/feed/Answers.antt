@@ -1,6 +1,6 @@
 -- One event of the buffer: it comes off the pieces and is screened, and then refused with a row, or taken after the holds that were due by its
 -- time.
-use Rattle.std.proofs.Common.{◌≡◌, ◌<◌, ℕ, Some, None, false, set, subst, sym, ap, ◌∙◌, arith}
+use Rattle.std.proofs.Common.{◌≡◌, ◌<◌, ℕ, Some, None, false, set, subst, sym, ap, ◌∙◌, arith, Err, rules}
 use Rattle.std.specs.Ordering.{is_le, nat_cmp}
 use Rattle.std.specs.Slice.Iter.{chunks_rest}
 use Rattle.std.specs.Iterator.Adapters.{enumerate_source}
@@ -21,17 +21,21 @@ use Rattle.feeding.proofs.feed.Goals as goal
 use Rattle.feeding.proofs.feed.Goals.{In-Some, In-Ok, In-Some-change, Joined-le-2, then-le, else-le, then-le-2, else-le-2, in-Some-change, in_default}
 
 -- ---- no room
-pub returns-then-out-needed-clause-value : goal.returns-then-out-needed-clause-value
-returns-then-out-needed-clause-value c =
-    nothing_answer c.args.session.now c.args.out.now c.args.events.now c.needed-needed.ensures c.if-out-needed.true
+pub returns-in_err-room-clause-value : goal.returns-in_err-room-clause-value
+returns-in_err-room-clause-value c =
+    let said : c.from_residual.result ≡ Err c.in_err-room.field-0.0 = search rules in
+    said ∙ nothing_answer c.args.session.now c.args.out.now c.args.events.now (c.in_err-room.ensures.short.0 ∙ c.needed-needed.ensures)
+    (omega (arith, c.in_err-room.ensures.short))
 
-pub returns-then-out-needed-clause-left : goal.returns-then-out-needed-clause-left
-returns-then-out-needed-clause-left c =
-    nothing_session c.args.session.now c.args.out.now c.args.events.now c.needed-needed.ensures c.if-out-needed.true
+pub returns-in_err-room-clause-left : goal.returns-in_err-room-clause-left
+returns-in_err-room-clause-left c =
+    nothing_session c.args.session.now c.args.out.now c.args.events.now (c.in_err-room.ensures.short.0 ∙ c.needed-needed.ensures)
+    (omega (arith, c.in_err-room.ensures.short))
 
-pub returns-then-out-needed-clause-out_after : goal.returns-then-out-needed-clause-out_after
-returns-then-out-needed-clause-out_after c =
-    nothing_into c.args.session.now c.args.out.now c.args.events.now c.needed-needed.ensures c.if-out-needed.true
+pub returns-in_err-room-clause-out_after : goal.returns-in_err-room-clause-out_after
+returns-in_err-room-clause-out_after c =
+    nothing_into c.args.session.now c.args.out.now c.args.events.now (c.in_err-room.ensures.short.0 ∙ c.needed-needed.ensures)
+    (omega (arith, c.in_err-room.ensures.short))
 
 -- ---- the event at hand: its piece, and what the screen takes of it and of its quote
 piece : (c : In-Some) → Piece (chunks_rest (enumerate_source c.loop-event.event-iterator)) c.in-Some.bytes.now (chunks_rest (enumerate_source c.next.new.self))
@@ -139,14 +143,14 @@ loop-event-preserved c =
 pub returns-clause-value : goal.returns-clause-value
 returns-clause-value c =
     all_answer c.args.session.now c.args.events.now c.args.out.now c.loop-event.invariant.ahead c.in-None.ensures.steps.0.1.0
-    (omega (arith, c.needed-needed.ensures, c.if-out-needed.false))
+    (omega (arith, c.needed-needed.ensures, c.in_ok-room.ensures.fits))
 
 pub returns-clause-left : goal.returns-clause-left
 returns-clause-left c =
     all_session c.args.session.now c.args.events.now c.args.out.now c.loop-event.invariant.ahead c.in-None.ensures.steps.0.1.0
-    (omega (arith, c.needed-needed.ensures, c.if-out-needed.false))
+    (omega (arith, c.needed-needed.ensures, c.in_ok-room.ensures.fits))
 
 pub returns-clause-out_after : goal.returns-clause-out_after
 returns-clause-out_after c =
     all_into c.args.session.now c.args.events.now c.args.out.now c.loop-event.invariant.ahead c.in-None.ensures.steps.0.1.0
-    (omega (arith, c.needed-needed.ensures, c.if-out-needed.false))
+    (omega (arith, c.needed-needed.ensures, c.in_ok-room.ensures.fits))

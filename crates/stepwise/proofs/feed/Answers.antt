@@ -1,5 +1,5 @@
 -- One event of the buffer goes to the session that the one before it left; what it tells has room, and the next turn goes on from there.
-use Rattle.std.proofs.Common.{◌≡◌, ℕ, ◌*◌, ◌+◌, sym, ap, ◌∙◌, arith, refl}
+use Rattle.std.proofs.Common.{◌≡◌, ℕ, ◌*◌, ◌+◌, sym, ap, ◌∙◌, arith, refl, Err, rules}
 use Rattle.std.proofs.Math.ListN.{length-map}
 use Rattle.std.specs.Slice.Iter.{chunks_rest}
 use Rattle.std.specs.Iterator.Adapters.{enumerate_source}
@@ -17,17 +17,21 @@ use Rattle.stepwise.proofs.feed.Goals as goal
 use Rattle.stepwise.proofs.feed.Goals.{In-Some, In-Ok, In-Err}
 
 -- ---- no room
-pub returns-then-out-needed-clause-value : goal.returns-then-out-needed-clause-value
-returns-then-out-needed-clause-value c =
-    nothing_answer c.args.session.now c.args.out.now c.args.events.now c.needed-needed.ensures c.if-out-needed.true
+pub returns-in_err-room-clause-value : goal.returns-in_err-room-clause-value
+returns-in_err-room-clause-value c =
+    let said : c.from_residual.result ≡ Err c.in_err-room.field-0.0 = search rules in
+    said ∙ nothing_answer c.args.session.now c.args.out.now c.args.events.now (c.in_err-room.ensures.short.0 ∙ c.needed-needed.ensures)
+    (omega (arith, c.in_err-room.ensures.short))
 
-pub returns-then-out-needed-clause-left : goal.returns-then-out-needed-clause-left
-returns-then-out-needed-clause-left c =
-    nothing_session c.args.session.now c.args.out.now c.args.events.now c.needed-needed.ensures c.if-out-needed.true
+pub returns-in_err-room-clause-left : goal.returns-in_err-room-clause-left
+returns-in_err-room-clause-left c =
+    nothing_session c.args.session.now c.args.out.now c.args.events.now (c.in_err-room.ensures.short.0 ∙ c.needed-needed.ensures)
+    (omega (arith, c.in_err-room.ensures.short))
 
-pub returns-then-out-needed-clause-out_after : goal.returns-then-out-needed-clause-out_after
-returns-then-out-needed-clause-out_after c =
-    nothing_into c.args.session.now c.args.out.now c.args.events.now c.needed-needed.ensures c.if-out-needed.true
+pub returns-in_err-room-clause-out_after : goal.returns-in_err-room-clause-out_after
+returns-in_err-room-clause-out_after c =
+    nothing_into c.args.session.now c.args.out.now c.args.events.now (c.in_err-room.ensures.short.0 ∙ c.needed-needed.ensures)
+    (omega (arith, c.in_err-room.ensures.short))
 
 -- ---- the event at hand
 piece : (c : In-Some) → Piece (chunks_rest (enumerate_source c.loop-event.event-iterator)) c.in-Some.bytes.now (chunks_rest (enumerate_source c.next.new.self))
@@ -82,14 +86,14 @@ loop-event-preserved c =
 pub returns-clause-value : goal.returns-clause-value
 returns-clause-value c =
     all_answer c.args.session.now c.args.events.now c.args.out.now c.loop-event.invariant.ahead c.in-None.ensures.steps.0.1.0
-    (omega (arith, c.needed-needed.ensures, c.if-out-needed.false))
+    (omega (arith, c.needed-needed.ensures, c.in_ok-room.ensures.fits))
 
 pub returns-clause-left : goal.returns-clause-left
 returns-clause-left c =
     all_session c.args.session.now c.args.events.now c.args.out.now c.loop-event.invariant.ahead c.in-None.ensures.steps.0.1.0
-    (omega (arith, c.needed-needed.ensures, c.if-out-needed.false))
+    (omega (arith, c.needed-needed.ensures, c.in_ok-room.ensures.fits))
 
 pub returns-clause-out_after : goal.returns-clause-out_after
 returns-clause-out_after c =
     all_into c.args.session.now c.args.events.now c.args.out.now c.loop-event.invariant.ahead c.in-None.ensures.steps.0.1.0
-    (omega (arith, c.needed-needed.ensures, c.if-out-needed.false))
+    (omega (arith, c.needed-needed.ensures, c.in_ok-room.ensures.fits))

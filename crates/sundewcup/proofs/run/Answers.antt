@@ -1,6 +1,6 @@
 -- Without room nothing is done; a refused table has its one row; and of an opened one the events are answered, with room left for the closing
 -- rows, which follow.
-use Rattle.std.proofs.Common.{◌≤◌, length, sym, subst, ap, ◌∙◌, arith}
+use Rattle.std.proofs.Common.{◌≤◌, length, sym, subst, ap, ◌∙◌, arith, Err, ◌≡◌, rules}
 use Rattle.corridor.specs.View.{Valid}
 use Rattle.closing.specs.Closing.{closing_numbers}
 use Rattle.sundewcup.specs.Running.{run_needs}
@@ -9,16 +9,19 @@ use Rattle.sundewcup.proofs.run.Goals as goal
 use Rattle.sundewcup.proofs.run.Goals.{After-open}
 
 -- ---- no room
-pub returns-then-out-needed-clause-value : goal.returns-then-out-needed-clause-value
-returns-then-out-needed-clause-value c =
-    none-ran c.args.table.now c.args.events.now c.args.out.now c.needed-needed.ensures c.if-out-needed.true
+pub returns-in_err-room-clause-value : goal.returns-in_err-room-clause-value
+returns-in_err-room-clause-value c =
+    let said : c.from_residual.result ≡ Err c.in_err-room.field-0.0 = search rules in
+    said ∙ none-ran c.args.table.now c.args.events.now c.args.out.now (c.in_err-room.ensures.short.0 ∙ c.needed-needed.ensures)
+    (omega (arith, c.in_err-room.ensures.short))
 
-pub returns-then-out-needed-clause-out_after : goal.returns-then-out-needed-clause-out_after
-returns-then-out-needed-clause-out_after c =
-    none_into c.args.table.now c.args.events.now c.args.out.now c.needed-needed.ensures c.if-out-needed.true
+pub returns-in_err-room-clause-out_after : goal.returns-in_err-room-clause-out_after
+returns-in_err-room-clause-out_after c =
+    none_into c.args.table.now c.args.events.now c.args.out.now (c.in_err-room.ensures.short.0 ∙ c.needed-needed.ensures)
+    (omega (arith, c.in_err-room.ensures.short))
 
 enough : (c : After-open) → run_needs (length c.args.events.now) ≤ length c.args.out.now
-enough c = omega (arith, c.needed-needed.ensures, c.if-out-needed.false)
+enough c = omega (arith, c.needed-needed.ensures, c.in_ok-room.ensures.fits)
 
 -- ---- a refused table
 pub returns-in-Err-clause-value : goal.returns-in-Err-clause-value
