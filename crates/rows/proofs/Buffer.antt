@@ -1,4 +1,4 @@
--- A buffer that is written from a place on: number by number, and run after run. Assumes nothing.
+-- A buffer that is written from a place on: run after run. Assumes nothing.
 use mathlib.Core.Path.{◌≡◌, refl, sym, ap, ◌∙◌}
 use mathlib.Core.List.{List, [], ◌∷◌, ◌++◌, map, append_assoc, append-nil, map-append}
 use Prim.Native.Nat.{ℕ, ◌+◌, ◌*◌, ◌<◌, ◌≤◌}
@@ -6,17 +6,13 @@ use native.Mathlib.Omega.{arith}
 use native.Mathlib.Nat.{add_assoc, zero-add}
 use native.Mathlib.Numerals.{add-one}
 use lib.IntN.{ℤ}
-use lib.ListN.{length, get_or, set, take, drop, length-append, length-drop, length-map}
-use lib.Seq.{paste, paste-zero, paste-suc, take-suc, length-take-le, take_at, drop_at, drop-drop}
+use lib.ListN.{length, get_or, take, drop, length-append, length-drop, length-map}
+use lib.Seq.{paste-zero, take-suc, length-take-le, take_at, drop_at, drop-drop}
 use Rattle.method.specs.declared.Row.{Row}
 use Rattle.method.specs.told.Rows.{row_numbers, numbers_of}
 use Rattle.rows.specs.Buffer.{written}
 
 module _ {A : Type 0} where
-  module _ (out : List A) (at : ℕ) (xs : List A) (i : ℕ) {now : List A} (copied : now ≡ paste out at xs i) where
-    pub one_more : (z : A) {x : A} → x ≡ get_or xs i z → at + i < length out → i < length xs → set now (at + i) x ≡ paste out at xs (i + 1)
-    one_more z same h g = rw (copied, same, add-one i) (paste-suc out at xs i z h g)
-
   pub nothing_written : (out : List A) (at : ℕ) → out ≡ written out at []
   nothing_written out at = paste-zero out at []
 

@@ -28,7 +28,7 @@ pub fn room(out: &[i64], needed: usize) -> Result<(), NoRoom>
     }
 }
 
-// What `as` gives, under the name that the hosts' answers go by.
+// What `as` gives, as a function, since docs/PROMISES.md promises one.
 #[tactic(auto, unfolding(method::specs::told::Refusals::event_number))]
 pub fn event_number(why: EventReason) -> i64
     ensures { result ≡ pos (event_number why) }
@@ -115,12 +115,10 @@ pub fn write_shifts(out: &mut [i64], at: usize, shifts: &[ShiftLine]) -> usize
     ensures value { result ≡ at + 6 * length shifts.now }
     ensures out_after { out.new ≡ written out.old at (numbers_of (map Row.Shift shifts.now)) }
 {
-    let mut next = at;
-    for c in shifts {
-        write(out, next, Row::Shift(*c));
-        next += 6;
+    for (i, c) in shifts.iter().enumerate() {
+        write(out, at + 6 * i, Row::Shift(*c));
     }
-    next
+    at + 6 * shifts.len()
 }
 
 // The room for the rows of so many bytes of events: a row for each event, and as many more.

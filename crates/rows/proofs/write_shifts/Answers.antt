@@ -4,9 +4,6 @@ use Rattle.method.specs.declared.Row.TheVariants as Row
 use Rattle.rows.proofs.Buffer.{row_on}
 use Rattle.rows.proofs.write_shifts.Goals as goal
 
-pub loop-c-preserved : goal.loop-c-preserved
-loop-c-preserved c =
-    let h = rw c.loop-c.invariant.0 at c.write.ensures in (
-      omega arith,
-      row_on Row.Shift c.args.out.now c.args.at c.args.shifts.now c.loop-c.c-index (omega arith) (omega arith) _ c.loop-c.invariant.1 h,
-    )
+pub loop-i-preserved : goal.loop-i-preserved
+loop-i-preserved c =
+    row_on Row.Shift c.args.out.now c.args.at c.args.shifts.now c.loop-i.i (omega arith) (omega arith) _ c.loop-i.invariant c.write.ensures
