@@ -1,9 +1,8 @@
 -- What the functions of this crate ask, and their callers show.
-use Rattle.std.specs.Prelude.{ℕ, suc, ◌≤◌, ◌<◌, ℤ, ◌+ℤ◌, ◌-ℤ◌}
+use Rattle.std.specs.Prelude.{ℕ, suc, ◌≤◌, ◌<◌, ℤ}
 use Rattle.numbers.specs.Ranges.{Within}
-use Rattle.method.specs.words.Types.{steps}
 use Rattle.method.specs.words.Ranges.{most_shifts, largest_near_share}
-use Rattle.method.specs.computed.Rooms.{largest_half_move, reach, largest_bound, FactorsIn, Room}
+use Rattle.method.specs.computed.Rooms.{largest_half_move, reach, largest_bound, largest_limit, FactorsIn, Room}
 use Rattle.bounds.specs.Asks.{Drawn}
 use Rattle.pressure.specs.Asks.{LimitsWithin}
 use Rattle.shifts.specs.Names.{Terms, Market, Millionths, Limits, Line}
@@ -16,23 +15,11 @@ pub record Movable (by : ℤ) (m : Market) : Type 0 where
   pub half2 : Within (reach 1) m.half2.0
   pub half3 : Within (reach 1) m.half3.0
 
--- what a limit asks that goes with its bound from a to b, and what becomes of the limits
-pub record Carried (k : Limits) (a b : ℤ) : Type 0 where
-  pub limits : LimitsWithin k
+-- what a limit asks that goes with its bound from a to b
+pub record Carried (z a b : ℤ) : Type 0 where
+  pub limit : Within largest_limit z
   pub from : Within largest_bound a
   pub to : Within largest_bound b
-
-abbrev pub with_upper : Limits → ℤ → Limits
-with_upper k z = record { upper = steps z; lower = k.lower; frozen = k.frozen }
-
-abbrev pub with_lower : Limits → ℤ → Limits
-with_lower k z = record { upper = k.upper; lower = steps z; frozen = k.frozen }
-
-abbrev pub raised_by : Limits → ℤ → ℤ → Limits
-raised_by k a b = with_upper k (k.upper.0 +ℤ (b -ℤ a))
-
-abbrev pub lowered_by : Limits → ℤ → ℤ → Limits
-lowered_by k a b = with_lower k (k.lower.0 -ℤ (a -ℤ b))
 
 -- what limits ask that are redrawn from market m to market n
 pub record Redrawable (t : Terms) (m n : Market) (k : Limits) : Type 0 where

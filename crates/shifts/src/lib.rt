@@ -2,13 +2,13 @@
 
 #![tactic(auto)]
 
-ghost use Rattle.std.specs.Prelude.{◌≡◌};
+ghost use Rattle.std.specs.Prelude.{◌≡◌, ◌+ℤ◌, ◌-ℤ◌};
 ghost use Rattle.numbers.specs.Ranges.{Within};
 ghost use Rattle.method.specs.computed.Shift.{toward, moved, redrawn, ended, moved_line, shift_line};
 ghost use Rattle.method.specs.computed.Event.{with_book, quoted_line};
 ghost use Rattle.method.specs.computed.Rooms.{largest_half_move, reach};
 ghost use Rattle.pressure.specs.Asks.{JudgeableLine};
-ghost use Rattle.shifts.specs.Asks.{Movable, Carried, Redrawable, Shiftable, Shifts, raised_by, lowered_by};
+ghost use Rattle.shifts.specs.Asks.{Movable, Carried, Redrawable, Shiftable, Shifts};
 
 use bounds::limits;
 use method::{Book, Holds, Limits, Line, Market, Quote, Side, Terms};
@@ -20,10 +20,7 @@ fn toward(side: Side, by: Steps, z: Steps) -> Steps
     requires { Within largest_half_move by.0 × Within (reach 1) z.0 }
     ensures { result ≡ toward side by z }
 {
-    match side {
-        Side::Up => Steps(z.0 + by.0),
-        Side::Down => Steps(z.0 - by.0),
-    }
+    bounds::market_bound(side, z, by)
 }
 
 // The centre goes toward the side; the half-widths grow on either.
@@ -40,22 +37,14 @@ fn moved(side: Side, by: Steps, m: Market) -> Market
     }
 }
 
-// The upper limit goes with its bound.
-fn raised(k: Limits, from: Steps, to: Steps) -> Limits
-    requires { Carried k from.0 to.0 }
-    ensures { result ≡ raised_by k from.0 to.0 }
+// A limit that goes with its bound.
+#[tactic(auto, using(crate::proofs::Moving::carries, crate::proofs::Moving::carried_down))]
+fn carried(z: Steps, from: Steps, to: Steps) -> Steps
+    requires { Carried z.0 from.0 to.0 }
+    ensures up { result.0 ≡ z.0 +ℤ (to.0 -ℤ from.0) }
+    ensures down { result.0 ≡ z.0 -ℤ (from.0 -ℤ to.0) }
 {
-    let upper = Steps(k.upper.0 + (to.0 - from.0));
-    Limits { upper, ..k }
-}
-
-// The lower limit goes with its bound.
-fn lowered(k: Limits, from: Steps, to: Steps) -> Limits
-    requires { Carried k from.0 to.0 }
-    ensures { result ≡ lowered_by k from.0 to.0 }
-{
-    let lower = Steps(k.lower.0 - (from.0 - to.0));
-    Limits { lower, ..k }
+    Steps(z.0 + (to.0 - from.0))
 }
 
 // The limits as the market goes from m to n. The shifted side's limit moves by its bound's growth, not by the half-move.
@@ -67,8 +56,17 @@ fn redrawn(side: Side, t: Terms, m: Market, n: Market, k: Limits) -> Limits
     let from = bounds::bound(side, t.factors, m);
     let to = bounds::bound(side, t.factors, n);
     match side {
-        Side::Up => raised(k, from, to),
-        Side::Down => limits::floored(wire::bit(0, t.flags), lowered(k, from, to)),
+        Side::Up => Limits {
+            upper: carried(k.upper, from, to),
+            ..k
+        },
+        Side::Down => limits::floored(
+            wire::bit(0, t.flags),
+            Limits {
+                lower: carried(k.lower, from, to),
+                ..k
+            },
+        ),
     }
 }
 
@@ -97,7 +95,8 @@ fn moved_line(side: Side, l: Line) -> Line
     }
 }
 
-// A line after a shift that leaves `left`.
+// A line after a shift that leaves `left`. Share, shifts left and second come one by one, as the method's `shift_line` takes them: a session may lie in
+// a host's memory, and is not read whole for them.
 #[tactic(auto, unfolding(method::specs::computed::Shift::shift_line))]
 pub fn shift_line(near: Millionths, left: u32, side: Side, now: Seconds, l: Line) -> Line
     requires { Shifts near left l }

@@ -3,8 +3,8 @@ use Rattle.std.proofs.Common.{rules}
 use Rattle.shifts.proofs.Moving.{reaches}
 use Rattle.shifts.proofs.redrawn.Goals as goal
 
-pub raised-requires : goal.raised-requires
-raised-requires c = search (rules, reaches)
+pub carried-requires : goal.carried-requires
+carried-requires c = search (rules, reaches)
 
-pub lowered-requires : goal.lowered-requires
-lowered-requires c = search (rules, reaches)
+pub carried-requires-in-Down : goal.carried-requires-in-Down
+carried-requires-in-Down c = search (rules, reaches)

@@ -1,8 +1,0 @@
--- Every step fits an `i64`, so that the limit which the code computes is the method's.
-use Rattle.std.proofs.Common.{rules, ap, ℤ}
-use Rattle.shifts.specs.Asks.{with_lower}
-use Rattle.shifts.proofs.Moving.{carries}
-use Rattle.shifts.proofs.lowered.Goals as goal
-
-pub returns : goal.returns
-returns c = ap (λ (z : ℤ). with_lower c.args.k z) (search (rules, carries))
