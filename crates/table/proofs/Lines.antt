@@ -1,7 +1,7 @@
 -- The loop over the contract lines: what holds while some of them are opened. Assumes nothing.
 use mathlib.Core.Path.{◌≡◌, refl, sym, ap, ◌∙◌}
 use mathlib.Core.List.{List, [], ◌∷◌, ◌++◌}
-use Prim.Native.Nat.{ℕ, suc, ◌+◌, ◌-◌, ◌*◌, ◌<◌}
+use Prim.Native.Nat.{ℕ, suc, ◌+◌, ◌-◌, ◌*◌, ◌<◌, ◌≤◌}
 use native.Mathlib.Numerals.{add-one}
 use native.Mathlib.Omega.{arith}
 use lib.ListN.{length, take, drop, length-append, length-drop}
@@ -13,7 +13,7 @@ use Rattle.method.specs.words.Tables.{opened, refused, opening_state}
 use Rattle.method.specs.computed.Types.{LineAnswer}
 use Rattle.method.specs.computed.Opening.{open_line}
 use Rattle.method.specs.computed.Table.{open_lines}
-use Rattle.table_records.proofs.Reading.{contract-before, contracts-after}
+use Rattle.table_records.proofs.Reading.{contract-before, contracts-before, contracts-after}
 use Rattle.table.specs.Names.{Header, Key, Contract, Line, TableReason, TableRefusal}
 use Rattle.table.specs.Opened.{refusal, opened_as}
 
@@ -24,21 +24,28 @@ pub record Opening-lines (h : Header) (keys : List Key) (cs : List Contract) (co
   pub size : length rest ≡ 40 * more
   pub onward : open_lines h keys (suc (length lines)) lines (contracts_at rest 0 more) ≡ open_lines h keys 1 [] cs
 
-pub lines_start : (b : List ℕ) (h : Header) (keys : List Key) (start count : ℕ) → length b ≡ start + 40 * count
-    → Opening-lines h keys (contracts_at b start count) count [] (drop start b)
-lines_start b h keys start count e =
+pub lines_start : (b : List ℕ) (h : Header) (keys : List Key) (start count : ℕ) (part : List ℕ) → start + 40 * count ≤ length b
+    → part ≡ take (40 * count) (drop start b) → Opening-lines h keys (contracts_at b start count) count [] part
+lines_start b h keys start count part e p =
     record {
       more = count;
       so_far = omega arith;
-      size = length-drop start b ∙ omega arith;
-      onward =
-          ap (λ (cs : List Contract). open_lines h keys 1 [] cs)
-          (sym (contracts-after (take start b) (drop start b) start 0 count front)
-          ∙ ap (λ (x : List ℕ). contracts_at x start count) (take-append-drop start b));
+      size = ap length p ∙ long;
+      onward = ap (λ (cs : List Contract). open_lines h keys 1 [] cs) (ap (λ (x : List ℕ). contracts_at x 0 count) p ∙ same);
     }
   where
     front : start ≡ length (take start b) + 0
     front = rw (length-take-le start b (omega arith)) (omega arith)
+
+    long : length (take (40 * count) (drop start b)) ≡ 40 * count
+    long = length-take-le (40 * count) (drop start b) (rw (length-drop start b) (omega arith))
+
+    same : contracts_at (take (40 * count) (drop start b)) 0 count ≡ contracts_at b start count
+    same =
+        sym (contracts-before (take (40 * count) (drop start b)) (drop (40 * count) (drop start b)) 0 count (omega (arith, long)))
+        ∙ ap (λ (x : List ℕ). contracts_at x 0 count) (take-append-drop (40 * count) (drop start b))
+        ∙ sym (contracts-after (take start b) (drop start b) start 0 count front)
+        ∙ ap (λ (x : List ℕ). contracts_at x start count) (take-append-drop start b)
 
 -- one contract read, the bytes later than it, and what it opens
 module _ (h : Header) (keys : List Key) (cs : List Contract) (count : ℕ) (lines : List Line) (rest : List ℕ) (o : Opening-lines h keys cs count lines rest)
@@ -46,9 +53,6 @@ module _ (h : Header) (keys : List Key) (cs : List Contract) (count : ℕ) (line
     (ea : a ≡ open_line h.shift keys lines (contract_at first 0)) where
   one-less : o.more ≡ suc (o.more - 1)
   one-less = omega (arith, o.size, ap length e, length-append first later)
-
-  pub lines_room : length lines < count
-  lines_room = omega (arith, o.so_far, one-less)
 
   next : contracts_at rest 0 o.more ≡ contract_at first 0 ∷ contracts_at later 0 (o.more - 1)
   unfolding contracts_at

@@ -3,6 +3,7 @@ use mathlib.Core.Path.{◌≡◌, sym, ap, ◌∙◌}
 use mathlib.Core.Bool.{true}
 use mathlib.Core.List.{List, []}
 use Prim.Native.Nat.{ℕ, ◌≤◌}
+use native.Mathlib.Omega.{arith}
 use borrow.Author.Tests.{le-leb, eq-eqb}
 use lib.ListN.{length}
 use Rattle.std.specs.Prelude.{Option, Some, None}
@@ -37,5 +38,5 @@ module _ (b : List ℕ) (h : Header) (e : h ≡ header_of b) (long : 40 ≤ leng
           header = header_in h ranges;
           some = rw (ek, keys_length b 40 h.keys) (header_in h ranges).keys.least;
           good = keys_in 1 0 keys (sym eb ∙ q);
-          whole = (laid_in h (length b) laid).whole;
+          whole = omega (arith, (laid_in h (length b) laid).whole);
         }

@@ -66,7 +66,8 @@ fn open_lines(bytes: &[u8], h: Header, keys: &[Key]) -> Result<OpenedTable, Tabl
     ensures { result ≡ opened_as (open_lines h keys.now 1 [] (contracts_at bytes.now (contracts_start h) h.contracts)) }
 {
     let mut lines = ArrayVec::new();
-    for record in bytes[40 + 8 * h.keys as usize..].chunks_exact(40) {
+    let start = 40 + 8 * h.keys as usize;
+    for record in bytes[start..start + 40 * h.contracts as usize].chunks_exact(40) {
         let line = lines.len() as u32 + 1;
         let contract = table_records::contract(record, 0);
         let opened = open_line(h.shift, keys, &lines, contract).map_err(|reason| TableRefusal {
@@ -84,7 +85,7 @@ fn open_lines(bytes: &[u8], h: Header, keys: &[Key]) -> Result<OpenedTable, Tabl
     })
 }
 
-// Where the table ends that these bytes begin, as its counts say.
+// Where the table ends that these bytes begin, as its counts say. Bytes and no array of 40: docs/PROMISES.md promises it of any that are long enough.
 pub fn ends_at(bytes: &[u8]) -> usize
     requires { 40 ≤ length bytes.now }
     ensures { result ≡ table_length (header_of bytes.now) }

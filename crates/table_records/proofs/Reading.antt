@@ -86,6 +86,11 @@ module _ (xs ys : List ℕ) where
         word-after (j + 36) (at + 36) (omega arith),
       )
 
+  pub contracts-before : (at n : ℕ) → at + 40 * n ≤ length xs → contracts_at (xs ++ ys) at n ≡ contracts_at xs at n
+  unfolding contracts_at
+  contracts-before at zero h = refl
+  contracts-before at (suc n) h = rw (contract-before at (omega arith), contracts-before (at + 40) n (omega arith))
+
   pub contracts-after : (j at n : ℕ) → j ≡ length xs + at → contracts_at (xs ++ ys) j n ≡ contracts_at ys at n
   unfolding contracts_at
   contracts-after j at zero e = refl

@@ -12,6 +12,7 @@ use numbers::{Millionths, Seconds, Steps};
 
 // ---- the three kinds of record
 
+// Bytes and no array of 40: docs/PROMISES.md promises it of any bytes that are long enough, and an array would ask more of callers.
 #[tactic(auto, unfolding(method::specs::words::Layout::header_of))]
 pub fn header(bytes: &[u8]) -> Header
     requires { 40 ≤ length bytes.now }

@@ -1,5 +1,5 @@
 -- What each turn of `table::open_lines` hands on, and what its end hands back.
-use Rattle.std.proofs.Common.{◌≡◌, ℕ, ◌+◌, ◌-◌, Err, length, drop, ap, ◌∙◌, take_all, length-drop, arith, rules}
+use Rattle.std.proofs.Common.{◌≡◌, ℕ, ◌+◌, ◌-◌, Err, length, take, drop, ap, ◌∙◌, arith, rules}
 use Rattle.std.specs.Slice.Iter.{chunks_exact_rest, chunks_exact_size}
 use Rattle.method.specs.words.Layout.{contracts_start, contracts_at}
 use Rattle.method.specs.words.Tables.{opening_state}
@@ -12,12 +12,10 @@ pub loop-record-init : goal.loop-record-init
 loop-record-init c =
     let start : ℕ = contracts_start c.args.h in (
       ap chunks_exact_size c.into_iter-record-iterator.ensures.into_iter_gives ∙ c.chunks_exact-record-items.ensures.size,
-      rw (
-        c.new-lines.ensures,
-        ap chunks_exact_rest c.into_iter-record-iterator.ensures.into_iter_gives ∙ c.chunks_exact-record-items.ensures.rest,
-        take_all (length c.args.bytes.now - start) (drop start c.args.bytes.now) (rw length-drop (omega arith)),
-      )
-          (lines_start c.args.bytes.now c.args.h c.args.keys.now start c.args.h.contracts c.requires.whole),
+      rw c.new-lines.ensures
+          (lines_start c.args.bytes.now c.args.h c.args.keys.now start c.args.h.contracts _ c.requires.whole
+          (ap chunks_exact_rest c.into_iter-record-iterator.ensures.into_iter_gives ∙ c.chunks_exact-record-items.ensures.rest
+          ∙ ap (λ (n : ℕ). take n (drop start c.args.bytes.now)) (omega arith))),
     )
 
 pub returns-in_err-opened : goal.returns-in_err-opened
