@@ -10,9 +10,6 @@ ghost use Rattle.pressure.specs.Asks.{Apart, Tested, Judgeable, JudgeableLine};
 use method::{Book, Hold, Holds, Limits, Line, Price, Side, Watch};
 use numbers::{Millionths, Seconds, Steps};
 
-// As wide as a product of steps.
-const WHOLE: i64 = method::WHOLE as i64;
-
 // Whether the distance is under the near share of the corridor's width. Both sides are multiplied out, so that nothing is rounded.
 fn near_by(near: Millionths, k: Limits, from: Steps, to: Steps) -> bool
     requires { Apart near.0 k from.0 to.0 }
@@ -20,7 +17,7 @@ fn near_by(near: Millionths, k: Limits, from: Steps, to: Steps) -> bool
 {
     let distance = from.0 - to.0;
     let width = k.upper.0 - k.lower.0;
-    distance * WHOLE < i64::from(near.0) * width
+    distance * i64::from(method::WHOLE) < i64::from(near.0) * width
 }
 
 // A price beyond its limit has a negative distance, and is close too.
@@ -91,6 +88,8 @@ pub fn judge(
 }
 
 // ---- a line
+
+// What pressure asks of a line is a clause and no type of it: a line comes out of a host's memory too, where any number may stand.
 
 #[tactic(auto, unfolding(method::specs::words::Pressure::presses))]
 pub fn presses(side: Side, near: Millionths, l: Line) -> bool

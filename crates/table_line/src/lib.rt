@@ -16,10 +16,8 @@ use bounds::{limits, rounding};
 use method::{Book, Contract, Factors, Holds, Limits, Line, Market, Side, TableReason, Terms};
 use numbers::{Billionths, Millionths, Steps};
 
-// As wide as a product of steps.
-const WHOLE: i64 = method::WHOLE as i64;
-
-const TWICE_WHOLE: i64 = 2 * WHOLE;
+// A constant may not call `i64::from`.
+const TWICE_WHOLE: i64 = 2 * method::WHOLE as i64;
 
 // That a contract is in its ranges, or a corridor can be worked out, stays a clause and no type of its own: docs/PROMISES.md promises `market`,
 // `terms` and `opened_with` of plain records.
@@ -39,7 +37,11 @@ fn half_width(c: Contract, rate: Millionths) -> Steps
     requires { ContractIn c × Between 1 whole rate.0 }
     ensures { result ≡ half_width c rate }
 {
-    rounding::rounded(Side::Up, normal_price(c).0 * i64::from(rate.0), WHOLE)
+    rounding::rounded(
+        Side::Up,
+        normal_price(c).0 * i64::from(rate.0),
+        i64::from(method::WHOLE),
+    )
 }
 
 #[tactic(auto, unfolding(method::specs::words::Opening::market_of))]
