@@ -30,11 +30,9 @@ pub fn market_bound(side: Side, centre: Steps, half: Steps) -> Steps
 fn factor(side: Side, f: Factors, z: Steps) -> Billionths
     ensures { result.0 ≡ factor side f z.0 }
 {
-    match side {
-        Side::Up if z < Steps(0) => f.down,
-        Side::Up => f.up,
-        Side::Down if Steps(0) <= z => f.down,
-        Side::Down => f.up,
+    match (side, z < Steps(0)) {
+        (Side::Up, true) | (Side::Down, false) => f.down,
+        _ => f.up,
     }
 }
 
@@ -44,10 +42,11 @@ fn interest(side: Side, k: Billionths, z: Steps) -> Steps
     requires { (k.0 ≤ largest_factor) × Within largest_market_bound z.0 }
     ensures { result.0 ≡ interest side k.0 z.0 }
 {
+    // A factor is far below the largest `i64`, so that `as` loses nothing, and a test of it would never fail.
     rounding::rounded(side, z.0 * k.0 as i64, 1_000_000_000)
 }
 
-// The interest bound of a side.
+// The interest bound of a side. What it asks is a clause: a market comes out of a host's memory too, where any number may stand.
 #[tactic(auto, using(crate::proofs::Drawing::drawn), unfolding(method::specs::words::Bounds::outward, method::specs::words::Bounds::bound))]
 pub fn bound(side: Side, f: Factors, m: Market) -> Steps
     requires { Drawn f m }

@@ -64,7 +64,7 @@ fn key_good(before: u32, k: Key) -> bool
     one_to(method::MOST_DAYS, k.days) && before < k.days && k.rate.0 <= method::LARGEST_RATE
 }
 
-// The line of the first bad key, from 1.
+// The line of the first bad key, from 1. A loop and no `position`, since a key is judged by the one before it.
 #[tactic(auto, unfolding(method::specs::computed::Table::bad_key))]
 pub fn first_bad_key(keys: &[Key]) -> Option<u32>
     requires { length keys.now ≤ most_keys }
@@ -82,12 +82,17 @@ pub fn first_bad_key(keys: &[Key]) -> Option<u32>
 
 // ---- a contract
 
+fn in_price_range(z: Steps) -> bool
+    ensures { result ≡ in_span largest_price z.0 }
+{
+    (method::LOWEST_PRICE..=method::LARGEST_PRICE).contains(&z.0)
+}
+
 // In its range, and at least 1 where negative prices are not permitted.
 fn price_good(flags: u32, price: Steps) -> bool
     ensures { result ≡ (in_span largest_price price.0 && (permits_negative flags || le_z (pos 1) price.0)) }
 {
-    (method::LOWEST_PRICE..=method::LARGEST_PRICE).contains(&price.0)
-        && (wire::bit(0, flags) || 1 <= price.0)
+    in_price_range(price) && (wire::bit(0, flags) || 1 <= price.0)
 }
 
 // In its range, and not below the rate before it.
@@ -103,7 +108,7 @@ fn field_good(f: Field, c: Contract) -> bool
 {
     match f {
         Field::Price => price_good(c.flags, c.price),
-        Field::Spot => (method::LOWEST_PRICE..=method::LARGEST_PRICE).contains(&c.spot.0),
+        Field::Spot => in_price_range(c.spot),
         Field::Least => (1..=method::LARGEST_PRICE).contains(&c.least.0),
         Field::Rate1 => one_to(method::WHOLE, c.rate1.0),
         Field::Rate2 => rate_good(c.rate1, c.rate2),
