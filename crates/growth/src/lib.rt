@@ -19,6 +19,7 @@ fn between_keys(l: Key, r: Key, days: u32) -> Millionths
     let rise = i64::from(r.rate.0) - i64::from(l.rate.0);
     let part = i64::from(days - l.days);
     let whole = i64::from(r.days - l.days);
+    // A rate between two others, so that `as` loses nothing, and a test of it would never fail.
     Millionths((i64::from(l.rate.0) + numbers::floor(rise * part, whole)) as u32)
 }
 
@@ -54,13 +55,15 @@ pub fn exponent(rate: Millionths, days: u32) -> Billionths
 // What is added to the series above exponent 0, so that a factor is never short of the exact one.
 const OUTER_PART: u64 = 20;
 
-// The exponential series to its twelfth power, each term rounded down.
+// The exponential series to its twelfth power, each term rounded down. That an exponent is capped stays a clause: `exponent` gives any, and
+// docs/PROMISES.md promises `factors` of a plain one.
 fn series(y: Billionths) -> Billionths
     requires { y.0 ≤ most_exponent }
     ensures { result.0 ≡ series y.0 12 }
 {
     let mut term = 1_000_000_000;
     let mut sum = term;
+    // From 0, so that before each turn the sum is the series to its k-th power; from 1 what holds in the loop would speak of k - 1.
     for k in 0..12 {
         term = term * y.0 / ((k + 1) * 1_000_000_000);
         sum += term;

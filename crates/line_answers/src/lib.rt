@@ -61,20 +61,20 @@ fn hold_report(wait: Seconds, h: Hold) -> Option<HoldTimes>
     })
 }
 
-// All that a gate or an operator asks of a line, with the session's shifts left and its clock.
+// All that a gate or an operator asks of a line, with the session's shifts left and its clock. Both and the wait come one by one, as `line_report` of the
+// method takes them: a session may lie in a host's memory, and is not read whole for them.
 #[tactic(auto, using(crate::proofs::Rooms::rooms), unfolding(method::specs::told::Report::line_report))]
 pub fn line_report(wait: Seconds, left: u32, clock: Seconds, l: Line) -> Report
     requires { (wait.0 ≤ longest_hold) × Room left l }
     ensures { result ≡ line_report wait left clock l }
 {
-    let m = l.market;
     Report {
         limits: l.limits,
         interest: interest_bounds(l),
-        centre: m.centre,
-        level1: market_bounds(m.centre, m.half1),
-        level2: market_bounds(m.centre, m.half2),
-        level3: market_bounds(m.centre, m.half3),
+        centre: l.market.centre,
+        level1: market_bounds(l.market.centre, l.market.half1),
+        level2: market_bounds(l.market.centre, l.market.half2),
+        level3: market_bounds(l.market.centre, l.market.half3),
         up: hold_report(wait, l.holds.up),
         down: hold_report(wait, l.holds.down),
         book: l.book,

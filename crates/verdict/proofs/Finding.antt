@@ -13,10 +13,8 @@ use lib.ListN.{length, get_or}
 use Rattle.method.specs.told.Questions.{listed}
 use Rattle.method.specs.computed.Sound.{Distinct}
 use Rattle.method.proofs.Every.{every_at}
-use Rattle.verdict.specs.Names.{ReadEvent, Tick, Quoted}
-use Rattle.verdict.specs.Decided.{slot_of, place_of, found}
+use Rattle.verdict.specs.Decided.{place_of, found}
 
--- an id is listed where its place is one of the list's
 ltb-suc : (m n : ℕ) → ltb (suc m) (suc n) ≡ ltb m n
 ltb-suc m n = go (ltb m n) refl
   where
@@ -31,6 +29,7 @@ place-position id = is_position_or_len (place_of id) (λ j. eqb j id) refl more
     more : (j : ℕ) (ids : List ℕ) → place_of id (j ∷ ids) ≡ cond (eqb j id) 0 (1 + place_of id ids)
     more j ids = let e : suc (place_of id ids) ≡ 1 + place_of id ids = omega arith in ap (λ (n : ℕ). cond (eqb j id) 0 n) e
 
+-- an id is listed where its place is one of the list's
 listed-placed : (id : ℕ) (ids : List ℕ) → listed id ids ≡ ltb (place_of id ids) (length ids)
 unfolding listed place_of
 listed-placed id [] = refl
@@ -72,8 +71,3 @@ pub guess_found : (id : ℕ) (ids : List ℕ) (p : ℕ) → Distinct ids → p <
 guess_found id ids p d h e =
     let at : p ≡ place_of id ids = guessed id ids p d h e in
     rw (listed-placed id ids, sym at, lt-ltb p (length ids) h)
-
-pub slot_below : (e : ReadEvent) → slot_of e < 256
-slot_below (Err why) = omega arith
-slot_below (Ok (Tick t)) = omega arith
-slot_below (Ok (Quoted q)) = omega arith

@@ -1,4 +1,5 @@
-// Whether an event is taken, and what it then changes.
+// Whether an event is taken, and what it then changes: from the ids, the end and the clock, and not from a session, since one may lie in a host's
+// memory. That no id stands twice is a clause for the same reason: any ids may stand there.
 
 #![tactic(auto)]
 
