@@ -11,7 +11,7 @@ ghost use Rattle.due.specs.Quiet.{nearer, until};
 use method::{Due, Hold, Holds, Side};
 use numbers::Seconds;
 
-// When a hold falls due.
+// When a hold falls due. The sum of two seconds stands at its three uses: a function for it would be longer, with its ranges asked again.
 #[tactic(auto, unfolding(method::specs::computed::Search::due_of, method::specs::computed::Rooms::HoldIn))]
 fn due_of(side: Side, wait: Seconds, place: usize, h: Hold) -> Option<Due>
     requires { HoldIn h × (wait.0 ≤ longest_hold) }

@@ -61,8 +61,8 @@ fn hold_report(wait: Seconds, h: Hold) -> Option<HoldTimes>
     })
 }
 
-// All that a gate or an operator asks of a line, with the session's shifts left and its clock. Both and the wait come one by one, as `line_report` of the
-// method takes them: a session may lie in a host's memory, and is not read whole for them.
+// All that a gate or an operator asks of a line, with the session's shifts left and its clock. Both and the wait come one by one, as the method's
+// `line_report` takes them: a session may lie in a host's memory, and is not read whole for them.
 #[tactic(auto, using(crate::proofs::Rooms::rooms), unfolding(method::specs::told::Report::line_report))]
 pub fn line_report(wait: Seconds, left: u32, clock: Seconds, l: Line) -> Report
     requires { (wait.0 ≤ longest_hold) × Room left l }

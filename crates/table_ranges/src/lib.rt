@@ -132,7 +132,8 @@ const FIELDS: [Field; 9] = [
     Field::Flags,
 ];
 
-// The fields from first to last, up to one that is not in its range (refusal 5).
+// The fields from first to last, up to one that is not in its range (refusal 5). A loop, which reads as the method does:
+// by `find` the answer would be turned from an option first.
 #[tactic(auto, unfolding(method::specs::computed::Opening::first_bad))]
 pub fn fields(c: Contract) -> Result<(), Field>
     ensures { result ≡ fields_answer c }
