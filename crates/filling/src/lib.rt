@@ -14,7 +14,8 @@ pub fn fill<R: Read>(input: &mut R, room: &mut [u8]) -> io::Result<usize>
     ensures within { ReadsAtMost result room.new }
     ensures filled { IfOk result (λ n. FilledFrom (R.remaining input.old) (R.remaining input.new) n room.new) }
 {
-    // Counted, since it is the answer: a slice that gets shorter would only stand beside it.
+    // `read_exact` does not tell how many came, and `read_to_end` needs the heap. The bytes are counted, since their number is the answer: a
+    // slice that gets shorter would only stand beside it.
     let mut done = 0;
     while done < room.len() {
         let got = input.read(&mut room[done..])?;

@@ -1,5 +1,6 @@
 // What the program says, as text at the start of a buffer: of a chunk of events, at the end, and of a refused table. The answer of each is how
-// many bytes there are.
+// many bytes there are, as `text::line` and `text::lines` answer, which docs/PROMISES.md promises so: a slice would be cut from it here
+// instead of at each write.
 
 ghost use Rattle.std.specs.Prelude.{◌≡◌, ◌*◌, ◌≤◌, length};
 ghost use Rattle.method.specs.declared.Row.TheVariants as RowOf;
@@ -15,7 +16,8 @@ use text::{BYTES_PER_NUMBER, LINE_BYTES};
 
 // A chunk of events. The session becomes the one that they leave.
 pub(crate) fn chunk(s: &mut Session, events: &[u8], numbers: &mut [i64], buffer: &mut [u8]) -> usize
-    requires { Valid s.old × (feed_needs (length events.now) ≤ length numbers.old) × (BYTES_PER_NUMBER * feed_needs (length events.now) ≤ length buffer.old) }
+    requires { Valid s.old × (feed_needs (length events.now) ≤ length numbers.old)
+        × (BYTES_PER_NUMBER * feed_needs (length events.now) ≤ length buffer.old) }
     ensures session_after { s.new ≡ left_by s.old events.now }
     ensures begins { Begins buffer.new result (told_text s.old events.now) }
 {

@@ -1,9 +1,9 @@
-// Program "session": a table and then its events from standard input; shifts, refusals and closing lines to standard output.
+// Program `session`: a table and then its events from standard input; shifts, refusals and closing lines to standard output.
 //
 // What standard input has no contract can say. So the program is written for any input and any output, and the contract of `answer_whole` says
-// what it wrote, where it answers `Ok`, for an input whose bytes are known: what the method says is written for them. Where a read fails, nothing more is printed, and
-// no closing lines: a failure is not the end of the input. Where a write fails, the program stops. Its exit status is 0 all the same (METHOD
-// 22.9); an output that ends otherwise than in a `T` line or the last closing line tells it.
+// what it wrote, where it answers `Ok`, for an input whose bytes are known: what the method says is written for them. Where a read fails,
+// nothing more is printed, and no closing lines: a failure is not the end of the input. Where a write fails, the program stops. Its exit
+// status is 0 all the same (METHOD 22.9); an output that ends otherwise than in a `T` line or the last closing line tells it.
 
 #![tactic(auto)]
 

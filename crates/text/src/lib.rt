@@ -31,7 +31,8 @@ const NO_FIELD: i64 = 0;
 // A line is made here, and copied once it is whole. `write!` would make it too, but it may answer an error, and no line can fail.
 type LineText = ArrayString<LINE_BYTES>;
 
-// Any number but those of the first three stands for a closing line.
+// A row comes as six numbers, as C gets it, so its kind is read back from the first of them. Any number but those of the first three kinds
+// stands for a closing line.
 enum Kind {
     Shift,
     RefusedEvent,
