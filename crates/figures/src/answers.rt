@@ -1,7 +1,15 @@
-// The answers to the questions as lines of text.
+// The answers to the questions as lines of text. Numbers are printed bare, without their unit, so no unit has a `Display`.
 
 use method::{EventReason, HoldTimes, Limits, Place, Report};
 use std::io;
+
+fn word(place: Place) -> &'static str {
+    match place {
+        Place::Below => "below",
+        Place::Inside => "inside",
+        Place::Above => "above",
+    }
+}
 
 pub(crate) fn place(
     out: &impl Print,
@@ -9,9 +17,7 @@ pub(crate) fn place(
     answer: Result<Place, EventReason>,
 ) -> io::Result<()> {
     match answer {
-        Ok(Place::Below) => println!(out; "  {price}: below"),
-        Ok(Place::Inside) => println!(out; "  {price}: inside"),
-        Ok(Place::Above) => println!(out; "  {price}: above"),
+        Ok(place) => println!(out; "  {price}: {}", word(place)),
         Err(why) => println!(out; "  {price}: {}", rows::event_number(why)),
     }
 }
