@@ -1,5 +1,5 @@
-// The exports of `host` for C, each with the clauses of the function that it calls. The archive is libhost.a, its header
-// include/sundewcup_host.h.
+// The exports of `host` for C, each with the clauses of the function that it calls: a static library exports the functions of its own crate
+// alone. The archive is libhost.a, its header include/sundewcup_host.h.
 
 #![tactic(auto)]
 

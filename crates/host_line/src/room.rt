@@ -98,6 +98,7 @@ fn limits(t: Terms, m: Market, k: Limits) -> bool
         && floor(k, t.flags)
 }
 
+// `events` has the same test of the prices that it reads; this crate reads none, and is checked without that one.
 #[tactic(auto, unfolding(method::specs::computed::Rooms::PriceIn))]
 fn price(p: Price) -> bool
     ensures { Decides result (PriceIn p) }

@@ -101,7 +101,7 @@ pub fn row_numbers(row: Row) -> [i64; 6]
     }
 }
 
-// A row written into the buffer from `at` on.
+// A row written into the buffer from `at` on. The buffer is the caller's, since nothing is allocated, and so its place goes beside it.
 pub fn write(out: &mut [i64], at: usize, row: Row)
     requires { (at + 6 ≤ length out.old) × Fits row }
     ensures { out.new ≡ written out.old at (row_numbers row) }

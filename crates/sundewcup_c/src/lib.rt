@@ -1,5 +1,5 @@
-// The export of `sundewcup` for C, with the clauses of the function that it calls. The archive is libsundewcup.a, its header
-// include/sundewcup.h.
+// The export of `sundewcup` for C, with the clauses of the function that it calls: a static library exports the functions of its own crate
+// alone. The archive is libsundewcup.a, its header include/sundewcup.h.
 
 #![tactic(auto)]
 

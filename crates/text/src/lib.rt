@@ -139,7 +139,7 @@ fn of_row(row: [i64; 6]) -> LineText
     }
 }
 
-// One row, by its kind, in the buffer from `at` on. The answer is the place after it.
+// One row, by its kind, in the buffer from `at` on, which is the caller's, so that its place goes beside it. The answer is the place after the row.
 pub fn line(row: [i64; 6], buffer: &mut [u8], at: usize) -> usize
     requires { at + LINE_BYTES ≤ length buffer.old }
     ensures put { Put buffer.old at (numbers_text row) buffer.new result }
