@@ -33,7 +33,7 @@ fn price(present: bool, z: Steps) -> Result<Price, EventReason>
     }
 }
 
-// A price that is present lies in its range.
+// A price that is present lies in its range. The numbers are compared and not the steps: a range of steps is slower, measured.
 fn in_range(price: Price) -> bool
     ensures { result ≡ price_in price }
 {

@@ -23,7 +23,7 @@ pub fn distinct(ids: &[u32]) -> bool
     true
 }
 
-// Of what a session has beside its lines: `count` of its lines are in use.
+// Of what a session has beside its lines: `count` of its lines are in use. The ends are plain numbers, as the method has them.
 pub fn in_range(h: Head) -> bool
     ensures { Decides result (Beside h) }
 {

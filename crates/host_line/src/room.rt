@@ -112,6 +112,7 @@ fn book(b: Book) -> bool
     price(b.bid) && price(b.ask)
 }
 
+// The end is a plain number, as the method has it.
 #[tactic(auto, unfolding(method::specs::computed::Rooms::HoldIn))]
 fn hold(h: Hold) -> bool
     ensures { Decides result (HoldIn h) }

@@ -7,6 +7,7 @@ use crate::{Head, Pair, Row};
 use method::{Hold, Line, Price};
 use numbers::Steps;
 
+// The plain number is asked for its sign, since that is what is turned.
 fn signed_number(z: Steps) -> u64
     ensures { signed_in result ≡ z.0 }
 {

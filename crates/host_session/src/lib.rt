@@ -51,9 +51,9 @@ fn by_value(session: &mut Memory, bytes: &[u8], out: &mut [i64; 96]) -> Result<u
     Ok(shifts.len())
 }
 
-// `looked` and `applied` do what a `Session` does for itself, where the lines lie as pairs of rows. A pair is an array, since C lends it, so no
-// trait of a lower crate can be said of it; and of a pair the walk reads the numbers that it wants and no more, which is why an event is not
-// taken by way of a `Session`. That each asks `Valid` of what the memory reads as, `host_memory` explains at `Memory`.
+// `looked` and `applied` do what a `Session` does for itself, where the lines lie as pairs of rows. As functions of
+// their own over whatever has lines they missed the speed of an event, measured; and of a pair the walk reads the numbers that it wants and no
+// more, which is why an event is not taken by way of a `Session`. That each asks `Valid` of what the memory reads as, `host_memory` explains at `Memory`.
 
 // A quote on the line at its place. What it asks of that line is a clause and no type of its own: a line comes out of a host's memory, where
 // any numbers may stand.

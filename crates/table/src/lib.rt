@@ -38,6 +38,7 @@ fn open_line(
         return Err(TableReason::Id);
     }
     let y = growth::exponent(growth::rate_at(keys, c.days), c.days);
+    // The end is a plain number, as the method has it.
     if method::MOST_EXPONENT < y.0 {
         return Err(TableReason::Exponent);
     }

@@ -30,7 +30,7 @@ pub fn header_good(h: Header) -> bool
         && one_to(method::WHOLE, h.shift.0)
 }
 
-// Most ranges begin at 1.
+// Most ranges begin at 1. The ends are plain numbers, as the method has them, so that of a unit its number is held against them, here and below.
 fn one_to(most: u32, n: u32) -> bool
     ensures { result ≡ in_range 1 most n }
 {
