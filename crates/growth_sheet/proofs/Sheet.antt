@@ -8,8 +8,11 @@ use native.Mathlib.Omega.{arith}
 use borrow.Author.Tests.{eqb-true}
 use lib.Dec.{eqb}
 use lib.ListN.{length, get_or}
+use mir.Syntax.{w64}
+use mir.Val.{Fits}
 use Rattle.numbers.proofs.Tests.{both}
 use Rattle.method.specs.words.Growth.{most_exponent, term, series, outer_part, up_factor}
+use Rattle.method.proofs.Growth.{up-between}
 use Rattle.growth_sheet.specs.Sheet.{a_thousandth, sheet}
 
 -- the test: x is the entry at thousandth k; and so on, over entries that begin there
@@ -37,3 +40,6 @@ all_right = refl
 pub on_sheet : (k : ℕ) → k * a_thousandth ≤ most_exponent → get_or sheet k 0 ≡ up_factor (k * a_thousandth)
 unfolding sheet
 on_sheet k h = rw zero-add at (right-at 0 sheet all_right k (omega (arith, h)))
+
+pub entry_fits : (k : ℕ) → k * a_thousandth ≤ most_exponent → Fits w64 (get_or sheet k 0)
+entry_fits k h = record { fits = rw (on_sheet k h) (omega (arith, up-between (k * a_thousandth) h)) }

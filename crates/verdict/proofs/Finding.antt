@@ -5,7 +5,7 @@ use Rattle.std.proofs.lemmas.List.Recursion.{is_position_or_len}
 use mathlib.Core.Path.{◌≡◌, refl, sym, ap, ◌∙◌}
 use mathlib.Core.Bool.{Bool, true, false, cond, ◌||◌}
 use mathlib.Core.List.{List, [], ◌∷◌}
-use Prim.Native.Nat.{ℕ, zero, suc, ◌+◌, ◌<◌}
+use Prim.Native.Nat.{ℕ, zero, suc, ◌+◌, ◌<◌, ◌≤◌}
 use native.Mathlib.Omega.{arith}
 use borrow.Author.Tests.{eq-eqb, ne_eqb, ltb-true, ltb-false, lt-ltb, le-ltb}
 use lib.Dec.{eqb, ltb}
@@ -13,7 +13,8 @@ use lib.ListN.{length, get_or}
 use Rattle.method.specs.told.Questions.{listed}
 use Rattle.method.specs.computed.Sound.{Distinct}
 use Rattle.method.proofs.Every.{every_at}
-use Rattle.verdict.specs.Decided.{place_of, found}
+use Rattle.verdict.specs.Names.{Tick, Quoted, ReadEvent}
+use Rattle.verdict.specs.Decided.{slot_of, place_of, found}
 
 ltb-suc : (m n : ℕ) → ltb (suc m) (suc n) ≡ ltb m n
 ltb-suc m n = go (ltb m n) refl
@@ -28,6 +29,15 @@ place-position id = is_position_or_len (place_of id) (λ j. eqb j id) refl more
   where
     more : (j : ℕ) (ids : List ℕ) → place_of id (j ∷ ids) ≡ cond (eqb j id) 0 (1 + place_of id ids)
     more j ids = let e : suc (place_of id ids) ≡ 1 + place_of id ids = omega arith in ap (λ (n : ℕ). cond (eqb j id) 0 n) e
+
+pub place-most : (id : ℕ) (ids : List ℕ) → place_of id ids ≤ length ids
+unfolding place_of
+place-most id [] = omega arith
+place-most id (j ∷ ids) = go (eqb j id) (place-most id ids)
+  where
+    go : (b : Bool) → place_of id ids ≤ length ids → cond b 0 (suc (place_of id ids)) ≤ suc (length ids)
+    go true h = omega arith
+    go false h = omega arith
 
 -- an id is listed where its place is one of the list's
 listed-placed : (id : ℕ) (ids : List ℕ) → listed id ids ≡ ltb (place_of id ids) (length ids)
@@ -71,3 +81,9 @@ pub guess_found : (id : ℕ) (ids : List ℕ) (p : ℕ) → Distinct ids → p <
 guess_found id ids p d h e =
     let at : p ≡ place_of id ids = guessed id ids p d h e in
     rw (listed-placed id ids, sym at, lt-ltb p (length ids) h)
+
+-- a slot is one of 256
+pub slot_below : (e : ReadEvent) → slot_of e < 256
+slot_below (Err why) = omega arith
+slot_below (Ok (Tick t)) = omega arith
+slot_below (Ok (Quoted q)) = omega arith
