@@ -2,9 +2,8 @@
 
 #![tactic(auto)]
 
-ghost use Rattle.std.specs.Prelude.{◌≡◌, ◌++◌, ◌+◌, ◌*◌, ◌≤◌, length};
-ghost use Rattle.arrayvec.specs.ArrayString.{array_string_len};
-ghost use Rattle.method.specs.told.Text.{signed_text};
+ghost use Rattle.std.specs.Prelude.{◌≡◌, [], ◌∷◌, ◌++◌, ◌+◌, ◌*◌, ◌≤◌, nat_abs, length};
+ghost use Rattle.method.specs.told.Text.{ascii, signed_text};
 ghost use Rattle.text.specs.Line.{
   letter,
   shift_text,
@@ -16,7 +15,6 @@ ghost use Rattle.text.specs.Line.{
   Put,
 };
 
-use arrayvec::ArrayString;
 use method::Side;
 
 // The longest line, a closing line, has five numbers of at most 20 bytes, and a byte after each.
@@ -27,9 +25,6 @@ pub const BYTES_PER_NUMBER: usize = 20;
 
 // The place of a field where none is named.
 const NO_FIELD: i64 = 0;
-
-// A line is made here, and copied once it is whole. `write!` would make it too, but it may answer an error, and no line can fail.
-type LineText = ArrayString<LINE_BYTES>;
 
 // A row comes as six numbers, as C gets it, so its kind is read back from the first of them. Any number but those of the first three kinds
 // stands for a closing line.
@@ -55,100 +50,111 @@ impl From<i64> for Kind {
     }
 }
 
-// A number in decimals, and what parts it from what follows.
-fn put(line: &mut LineText, n: i64, after: &str)
-    requires { array_string_len line.old + 20 + length after.now ≤ LINE_BYTES }
-    ensures text { line.new.bytes ≡ line.old.bytes ++ (signed_text n ++ after.now) }
-    ensures upper_bound { array_string_len line.new ≤ array_string_len line.old + 20 + length after.now }
+// How far a number is from 0. The digits of a line come of the library's decimals; this is promised (docs/PROMISES.md) to whoever wants it by itself.
+pub fn magnitude(n: i64) -> u64
+    ensures { result ≡ nat_abs n }
 {
-    line.push_str(itoa::Buffer::new().format(n));
-    line.push_str(after);
+    n.unsigned_abs()
 }
 
-// U or D, by the number of the side.
-fn side_letter(side: i64) -> &'static str
-    ensures text { result.now ≡ letter side }
-    ensures len { length result.now ≡ 1 }
+// A text in the buffer from `at` on. Each function from here on answers the place after what it puts. A line is made where it goes: made by
+// `push_str` in a string of its own and copied from there it took half as long again, measured, and `write!` may answer an error, and no line can fail.
+fn put(buffer: &mut [u8], at: usize, text: &str) -> usize
+    requires { at + length text.now ≤ length buffer.old }
+    ensures { Put buffer.old at text.now buffer.new result }
 {
-    if side == Side::Up as i64 { "U" } else { "D" }
+    let end = at + text.len();
+    buffer[at..end].copy_from_slice(text.as_bytes());
+    end
+}
+
+// A number in decimals, and the byte that parts it from what follows.
+fn put_number(buffer: &mut [u8], at: usize, n: i64, after: u8) -> usize
+    requires { at + 21 ≤ length buffer.old }
+    ensures put { Put buffer.old at (signed_text n ++ (after ∷ [])) buffer.new result }
+    ensures upper_bound { result ≤ at + 21 }
+{
+    let end = put(buffer, at, itoa::Buffer::new().format(n));
+    buffer[end] = after;
+    end + 1
+}
+
+// U or D, by the number of the side, and a space.
+fn side_letter(side: i64) -> &'static str
+    ensures text { result.now ≡ letter side ++ ascii " " }
+    ensures len { length result.now ≡ 2 }
+{
+    if side == Side::Up as i64 { "U " } else { "D " }
 }
 
 // A shift: its second, its side, the id of the line that called.
-fn shift(row: [i64; 6]) -> LineText
-    ensures { result.bytes ≡ shift_text row }
+fn shift(row: [i64; 6], buffer: &mut [u8], at: usize) -> usize
+    requires { at + LINE_BYTES ≤ length buffer.old }
+    ensures put { Put buffer.old at (shift_text row) buffer.new result }
+    ensures upper_bound { result ≤ at + 44 }
 {
     let [_, second, side, id, ..] = row;
-    let mut line = LineText::new();
-    put(&mut line, second, " ");
-    line.push_str(side_letter(side));
-    line.push_str(" ");
-    put(&mut line, id, "\n");
-    line
+    let first = put_number(buffer, at, second, b' ');
+    let next = put(buffer, first, side_letter(side));
+    put_number(buffer, next, id, b'\n')
 }
 
 // A refused event: its number.
-fn refused_event(row: [i64; 6]) -> LineText
-    ensures { result.bytes ≡ refused_event_text row }
+fn refused_event(row: [i64; 6], buffer: &mut [u8], at: usize) -> usize
+    requires { at + LINE_BYTES ≤ length buffer.old }
+    ensures put { Put buffer.old at (refused_event_text row) buffer.new result }
+    ensures upper_bound { result ≤ at + 23 }
 {
     let [_, why, ..] = row;
-    let mut line = LineText::new();
-    line.push_str("R ");
-    put(&mut line, why, "\n");
-    line
+    let next = put(buffer, at, "R ");
+    put_number(buffer, next, why, b'\n')
 }
 
 // A refused table: the number, the line, and the field where one is named.
-fn refused_table(row: [i64; 6]) -> LineText
-    ensures { result.bytes ≡ refused_table_text row }
+fn refused_table(row: [i64; 6], buffer: &mut [u8], at: usize) -> usize
+    requires { at + LINE_BYTES ≤ length buffer.old }
+    ensures put { Put buffer.old at (refused_table_text row) buffer.new result }
+    ensures upper_bound { result ≤ at + 65 }
 {
     let [_, why, place, field, ..] = row;
-    let mut line = LineText::new();
-    line.push_str("T ");
-    put(&mut line, why, " ");
+    let first = put(buffer, at, "T ");
+    let next = put_number(buffer, first, why, b' ');
     if field == NO_FIELD {
-        put(&mut line, place, "\n");
+        put_number(buffer, next, place, b'\n')
     } else {
-        put(&mut line, place, " ");
-        put(&mut line, field, "\n");
+        let last = put_number(buffer, next, place, b' ');
+        put_number(buffer, last, field, b'\n')
     }
-    line
 }
 
 // A closing line: the id, both limits, both interest bounds.
-fn closing(row: [i64; 6]) -> LineText
-    ensures { result.bytes ≡ closed_text row }
+fn closing(row: [i64; 6], buffer: &mut [u8], at: usize) -> usize
+    requires { at + LINE_BYTES ≤ length buffer.old }
+    ensures put { Put buffer.old at (closed_text row) buffer.new result }
+    ensures upper_bound { result ≤ at + 105 }
 {
     let [_, id, lower, upper, lowerbound, upperbound] = row;
-    let mut line = LineText::new();
-    put(&mut line, id, " ");
-    put(&mut line, lower, " ");
-    put(&mut line, upper, " ");
-    put(&mut line, lowerbound, " ");
-    put(&mut line, upperbound, "\n");
-    line
-}
-
-fn of_row(row: [i64; 6]) -> LineText
-    ensures { result.bytes ≡ numbers_text row }
-{
-    match Kind::from(row[0]) {
-        Kind::Shift => shift(row),
-        Kind::RefusedEvent => refused_event(row),
-        Kind::RefusedTable => refused_table(row),
-        Kind::Closing => closing(row),
-    }
+    let next = put_number(buffer, at, id, b' ');
+    let next2 = put_number(buffer, next, lower, b' ');
+    let next3 = put_number(buffer, next2, upper, b' ');
+    let next4 = put_number(buffer, next3, lowerbound, b' ');
+    put_number(buffer, next4, upperbound, b'\n')
 }
 
 // One row, by its kind, in the buffer from `at` on, which is the caller's, so that its place goes beside it. The answer is the place after the row.
+// It is made part of its callers, since a row is large, and handing it over costs each line.
+#[inline(always)]
 pub fn line(row: [i64; 6], buffer: &mut [u8], at: usize) -> usize
     requires { at + LINE_BYTES ≤ length buffer.old }
     ensures put { Put buffer.old at (numbers_text row) buffer.new result }
     ensures upper_bound { result ≤ at + LINE_BYTES }
 {
-    let text = of_row(row);
-    let end = at + text.len();
-    buffer[at..end].copy_from_slice(text.as_str().as_bytes());
-    end
+    match Kind::from(row[0]) {
+        Kind::Shift => shift(row, buffer, at),
+        Kind::RefusedEvent => refused_event(row, buffer, at),
+        Kind::RefusedTable => refused_table(row, buffer, at),
+        Kind::Closing => closing(row, buffer, at),
+    }
 }
 
 // All rows, line after line from the buffer's start on.

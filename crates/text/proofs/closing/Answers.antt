@@ -1,15 +1,14 @@
--- The five numbers stand one after another.
-use Rattle.std.proofs.Common.{rules, append_assoc}
+-- The five numbers stand in the buffer one after another.
+use Rattle.std.proofs.Common.{rules, arith}
 use Rattle.text.specs.Line.{number}
-use Rattle.text.proofs.Putting.{said_back}
+use Rattle.text.proofs.Putting.{put_on, put_back}
 use Rattle.text.proofs.closing.Goals as goal
 
-pub returns : goal.returns
-returns c =
+pub returns-clause-put : goal.returns-clause-put
+returns-clause-put c =
     let row = c.args.row in
-    let upperbound = said_back (number row 5) _ _ (search rules) c.put-5.ensures.text in
-    let lowerbound = said_back (number row 4) _ _ (search rules) c.put-4.ensures.text in
-    let upper = said_back (number row 3) _ _ (search rules) c.put-3.ensures.text in
-    let lower = said_back (number row 2) _ _ (search rules) c.put-2.ensures.text in
-    let id = said_back (number row 1) _ _ (search rules) c.put.ensures.text in
-    rw (upperbound, lowerbound, upper, lower, id, c.new-line.ensures) (simp append_assoc)
+    let upperbound = put_back (number row 5) 10 (search rules) c.put_number.ensures.put in
+    let lowerbound = put_on (put_back (number row 4) 32 (search rules) c.put_number-next4.ensures.put) (omega arith) upperbound in
+    let upper = put_on (put_back (number row 3) 32 (search rules) c.put_number-next3.ensures.put) (omega arith) lowerbound in
+    let lower = put_on (put_back (number row 2) 32 (search rules) c.put_number-next2.ensures.put) (omega arith) upper in
+    put_on (put_back (number row 1) 32 (search rules) c.put_number-next.ensures.put) (omega arith) lower

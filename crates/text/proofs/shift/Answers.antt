@@ -1,13 +1,13 @@
--- The second, the side and the id stand one after another.
-use Rattle.std.proofs.Common.{rules, ap, ◌∙◌, append_assoc}
+-- The second, the side and the id stand in the buffer one after another.
+use Rattle.std.proofs.Common.{ℤ, ◌++◌, rules, ap, ◌∙◌, arith}
+use Rattle.method.specs.told.Text.{ascii}
 use Rattle.text.specs.Line.{number, letter}
-use Rattle.text.proofs.Putting.{read_back, said_back}
+use Rattle.text.proofs.Putting.{put_on, put_as, put_back, read_back}
 use Rattle.text.proofs.shift.Goals as goal
 
-pub returns : goal.returns
-returns c =
+pub returns-clause-put : goal.returns-clause-put
+returns-clause-put c =
     let row = c.args.row in
-    let id = said_back (number row 3) _ _ (search rules) c.put-2.ensures.text in
-    let side = c.side_letter.ensures.text ∙ ap letter (read_back (number row 2) (search rules)) in
-    let second = said_back (number row 1) _ _ (search rules) c.put.ensures.text in
-    rw (id, c.push_str-2.ensures.bytes, c.push_str.ensures.bytes, side, second, c.new-line.ensures) (simp append_assoc)
+    let side = c.side_letter.ensures.text ∙ ap (λ (z : ℤ). letter z ++ ascii " ") (read_back (number row 2) (search rules)) in
+    let id = put_on (put_as side c.put-next.ensures) (omega arith) (put_back (number row 3) 10 (search rules) c.put_number.ensures.put) in
+    put_on (put_back (number row 1) 32 (search rules) c.put_number-first.ensures.put) (omega arith) id
