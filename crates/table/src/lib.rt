@@ -52,7 +52,7 @@ fn open_line(
 // ---- the whole table
 
 // What a table opens: its lines, and the header's numbers.
-#[derive(Drop)]
+#[derive(Clone, Drop)]
 pub struct OpenedTable {
     pub lines: ArrayVec<Line, 32>,
     pub end: Seconds,
@@ -61,7 +61,9 @@ pub struct OpenedTable {
     pub near: Millionths,
 }
 
-// Each contract line in turn.
+// Each contract line in turn. It stays a function by itself: as a part of `open` its lines would be laid out on the stack for every table that is
+// refused before them too.
+#[inline(never)]
 fn open_lines(bytes: &[u8], h: Header, keys: &[Key]) -> Result<OpenedTable, TableRefusal>
     requires { Lined h keys.now (length bytes.now) }
     ensures { result ≡ opened_as (open_lines h keys.now 1 [] (contracts_at bytes.now (contracts_start h) h.contracts)) }
