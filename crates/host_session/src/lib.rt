@@ -9,7 +9,7 @@ ghost use Rattle.method.specs.computed.Event.{read, with_book, quoted_line};
 ghost use Rattle.pressure.specs.Asks.{JudgeableLine};
 ghost use Rattle.verdict.specs.Decided.{decided};
 ghost use Rattle.rows.specs.Buffer.{written};
-ghost use Rattle.corridor.specs.View.{view, with_line, Valid, opened_session, left_by_open};
+ghost use Rattle.corridor.specs.View.{view, with_line, Valid, no_session, opened_session, left_by_open};
 ghost use Rattle.corridor.specs.Applied.{applied_to, Applies};
 ghost use Rattle.corridor.specs.Engine.{session_after};
 ghost use Rattle.feeding.specs.Quiet.{quiet_until};
@@ -19,11 +19,19 @@ ghost use Rattle.host_memory.specs.Memory.{session_in};
 ghost use Rattle.host_session.specs.Answers.{opened_or_not, reply_in, made_in, shift_rows};
 
 use arrayvec::ArrayVec;
+use corridor::Session;
 use host_memory::Memory;
 use method::{EventReason, Quote, TableRefusal};
 use numbers::Seconds;
 use rows::NoRoom;
 use verdict::Taken;
+
+// What stands in the memory after a refused table: no lines, and hold seconds and near share of 0, which no session has.
+fn none() -> Session
+    ensures { result ≡ no_session }
+{
+    Session::default()
+}
 
 // Opens a session. After a refused table the memory holds none: what it reads as is then not `Valid`.
 pub fn open(session: &mut Memory, table: &[u8]) -> Result<(), TableRefusal>
@@ -31,7 +39,7 @@ pub fn open(session: &mut Memory, table: &[u8]) -> Result<(), TableRefusal>
     ensures session_after { session_in session.new ≡ left_by_open (opening table.now) }
 {
     let opened = corridor::open(table);
-    host_memory::kept(session, &opened.unwrap_or_default());
+    host_memory::kept(session, &opened.unwrap_or(none()));
     opened?;
     Ok(())
 }
