@@ -1,9 +1,9 @@
 -- A loop that changes each row, and a row that is read by its place. Assumes nothing.
 use mathlib.Core.Path.{◌≡◌, refl, ap, subst}
-use mathlib.Core.List.{List, [], ◌∷◌, map}
+use mathlib.Core.List.{List, [], ◌∷◌, ◌++◌, map}
 use Prim.Native.Nat.{ℕ, zero, suc, ◌<◌, ◌≤◌}
 use native.Mathlib.Omega.{arith}
-use lib.ListN.{length, get_or, set, take}
+use lib.ListN.{length, get_or, set, take, drop}
 use lib.Seq.{length-take-le, get_or-take}
 use Rattle.method.specs.words.Types.{blank}
 use Rattle.method.specs.computed.Head.{most_left}
@@ -38,6 +38,13 @@ module _ {A : Type 0} (f : A → A) where
   changed-length zero xs = refl
   changed-length (suc k) [] = refl
   changed-length (suc k) (x ∷ xs) = ap suc (changed-length k xs)
+
+  -- the method's map, written over the first places
+  pub changed_view : (n : ℕ) (xs : List A) → changed f n xs ≡ map f (take n xs) ++ drop n xs
+  unfolding changed
+  changed_view zero xs = refl
+  changed_view (suc n) [] = refl
+  changed_view (suc n) (x ∷ xs) = ap (λ (l : List A). f x ∷ l) (changed_view n xs)
 
   -- at the end
   pub changed_all : (k : ℕ) (xs : List A) → length xs ≤ k → changed f k xs ≡ map f xs

@@ -62,7 +62,7 @@ pub struct OpenedTable {
 }
 
 // Each contract line in turn. It stays a function by itself: as a part of `open` its lines would be laid out on the stack for every table that is
-// refused before them too.
+// refused before them too, which took such a table a quarter longer, measured.
 #[inline(never)]
 fn open_lines(bytes: &[u8], h: Header, keys: &[Key]) -> Result<OpenedTable, TableRefusal>
     requires { Lined h keys.now (length bytes.now) }

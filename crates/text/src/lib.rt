@@ -57,8 +57,9 @@ pub fn magnitude(n: i64) -> u64
     n.unsigned_abs()
 }
 
-// A text in the buffer from `at` on. Each function from here on answers the place after what it puts. A line is made where it goes: made by
-// `push_str` in a string of its own and copied from there it took half as long again, measured, and `write!` may answer an error, and no line can fail.
+// A text in the buffer from `at` on. Each function from here on that is lent the buffer answers the place after what it puts. A line is made where it
+// goes: by `push_str` in a string of its own, copied from there, refused events took the program up to four tenths longer, measured; and `write!` may
+// answer an error, and no line can fail.
 fn put(buffer: &mut [u8], at: usize, text: &str) -> usize
     requires { at + length text.now ≤ length buffer.old }
     ensures { Put buffer.old at text.now buffer.new result }

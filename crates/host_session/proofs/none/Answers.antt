@@ -1,7 +1,6 @@
 -- The session by default is the one that is none.
 use Rattle.std.proofs.Common.{◌≡◌, sym, ◌∙◌, rules, arith, replicate, get_or, ◌<◌}
 use Rattle.std.proofs.lemmas.List.{same_lists, length-replicate, get_or-replicate}
-use Rattle.corridor.specs.View.{no_session}
 use Rattle.method.specs.words.Types.{blank}
 use Rattle.host_session.proofs.none.Goals as goal
 

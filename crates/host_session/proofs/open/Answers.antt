@@ -1,5 +1,5 @@
 -- What `open` hands back is what the memory holds then: the session, or the one that is none.
-use Rattle.std.proofs.Common.{◌≡◌, sym, ◌∙◌}
+use Rattle.std.proofs.Common.{sym, ◌∙◌}
 use Rattle.corridor.proofs.Theorems.{opened-left, refused-left}
 use Rattle.host_session.proofs.open.Goals as goal
 
