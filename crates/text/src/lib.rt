@@ -95,9 +95,9 @@ fn shift(row: [i64; 6], buffer: &mut [u8], at: usize) -> usize
     ensures upper_bound { result ≤ at + 44 }
 {
     let [_, second, side, id, ..] = row;
-    let first = put_number(buffer, at, second, b' ');
-    let next = put(buffer, first, side_letter(side));
-    put_number(buffer, next, id, b'\n')
+    let after_second = put_number(buffer, at, second, b' ');
+    let after_side = put(buffer, after_second, side_letter(side));
+    put_number(buffer, after_side, id, b'\n')
 }
 
 // A refused event: its number.
@@ -107,8 +107,8 @@ fn refused_event(row: [i64; 6], buffer: &mut [u8], at: usize) -> usize
     ensures upper_bound { result ≤ at + 23 }
 {
     let [_, why, ..] = row;
-    let next = put(buffer, at, "R ");
-    put_number(buffer, next, why, b'\n')
+    let after_letter = put(buffer, at, "R ");
+    put_number(buffer, after_letter, why, b'\n')
 }
 
 // A refused table: the number, the line, and the field where one is named.
@@ -118,13 +118,13 @@ fn refused_table(row: [i64; 6], buffer: &mut [u8], at: usize) -> usize
     ensures upper_bound { result ≤ at + 65 }
 {
     let [_, why, place, field, ..] = row;
-    let first = put(buffer, at, "T ");
-    let next = put_number(buffer, first, why, b' ');
+    let after_letter = put(buffer, at, "T ");
+    let after_why = put_number(buffer, after_letter, why, b' ');
     if field == NO_FIELD {
-        put_number(buffer, next, place, b'\n')
+        put_number(buffer, after_why, place, b'\n')
     } else {
-        let last = put_number(buffer, next, place, b' ');
-        put_number(buffer, last, field, b'\n')
+        let after_place = put_number(buffer, after_why, place, b' ');
+        put_number(buffer, after_place, field, b'\n')
     }
 }
 
@@ -135,11 +135,11 @@ fn closing(row: [i64; 6], buffer: &mut [u8], at: usize) -> usize
     ensures upper_bound { result ≤ at + 105 }
 {
     let [_, id, lower, upper, lowerbound, upperbound] = row;
-    let next = put_number(buffer, at, id, b' ');
-    let next2 = put_number(buffer, next, lower, b' ');
-    let next3 = put_number(buffer, next2, upper, b' ');
-    let next4 = put_number(buffer, next3, lowerbound, b' ');
-    put_number(buffer, next4, upperbound, b'\n')
+    let after_id = put_number(buffer, at, id, b' ');
+    let after_lower = put_number(buffer, after_id, lower, b' ');
+    let after_upper = put_number(buffer, after_lower, upper, b' ');
+    let after_lowerbound = put_number(buffer, after_upper, lowerbound, b' ');
+    put_number(buffer, after_lowerbound, upperbound, b'\n')
 }
 
 // One row, by its kind, in the buffer from `at` on, which is the caller's, so that its place goes beside it. The answer is the place after the row.

@@ -8,7 +8,7 @@ pub returns-clause-put : goal.returns-clause-put
 returns-clause-put c =
     let row = c.args.row in
     let upperbound = put_back (number row 5) 10 (search rules) c.put_number.ensures.put in
-    let lowerbound = put_on (put_back (number row 4) 32 (search rules) c.put_number-next4.ensures.put) (omega arith) upperbound in
-    let upper = put_on (put_back (number row 3) 32 (search rules) c.put_number-next3.ensures.put) (omega arith) lowerbound in
-    let lower = put_on (put_back (number row 2) 32 (search rules) c.put_number-next2.ensures.put) (omega arith) upper in
-    put_on (put_back (number row 1) 32 (search rules) c.put_number-next.ensures.put) (omega arith) lower
+    let lowerbound = put_on (put_back (number row 4) 32 (search rules) c.put_number-after_lowerbound.ensures.put) (omega arith) upperbound in
+    let upper = put_on (put_back (number row 3) 32 (search rules) c.put_number-after_upper.ensures.put) (omega arith) lowerbound in
+    let lower = put_on (put_back (number row 2) 32 (search rules) c.put_number-after_lower.ensures.put) (omega arith) upper in
+    put_on (put_back (number row 1) 32 (search rules) c.put_number-after_id.ensures.put) (omega arith) lower

@@ -9,13 +9,13 @@ pub returns-then-field-eq-NO_FIELD-clause-put : goal.returns-then-field-eq-NO_FI
 returns-then-field-eq-NO_FIELD-clause-put c =
     let row = c.args.row in
     let line = put_back (number row 2) 10 (search rules) c.put_number.ensures.put in
-    let why = put_on (put_back (number row 1) 32 (search rules) c.put_number-next.ensures.put) (omega arith) line in
-    rw (is-so (number row 3) 0 (omega arith) (record { sfits = search rules }) c.if-field-eq-NO_FIELD.true) (put_on c.put-first.ensures (omega arith) why)
+    let why = put_on (put_back (number row 1) 32 (search rules) c.put_number-after_why.ensures.put) (omega arith) line in
+    rw (is-so (number row 3) 0 (omega arith) (record { sfits = search rules }) c.if-field-eq-NO_FIELD.true) (put_on c.put-after_letter.ensures (omega arith) why)
 
 pub returns-else-field-eq-NO_FIELD-clause-put : goal.returns-else-field-eq-NO_FIELD-clause-put
 returns-else-field-eq-NO_FIELD-clause-put c =
     let row = c.args.row in
     let field = put_back (number row 3) 10 (search rules) c.put_number-else-field-eq-NO_FIELD.ensures.put in
-    let line = put_on (put_back (number row 2) 32 (search rules) c.put_number-last.ensures.put) (omega arith) field in
-    let why = put_on (put_back (number row 1) 32 (search rules) c.put_number-next.ensures.put) (omega arith) line in
-    rw (is-not (number row 3) 0 c.if-field-eq-NO_FIELD.false) (put_on c.put-first.ensures (omega arith) why)
+    let line = put_on (put_back (number row 2) 32 (search rules) c.put_number-after_place.ensures.put) (omega arith) field in
+    let why = put_on (put_back (number row 1) 32 (search rules) c.put_number-after_why.ensures.put) (omega arith) line in
+    rw (is-not (number row 3) 0 c.if-field-eq-NO_FIELD.false) (put_on c.put-after_letter.ensures (omega arith) why)
