@@ -58,7 +58,7 @@ pub fn magnitude(n: i64) -> u64
 }
 
 // A text in the buffer from `at` on. Each function from here on that is lent the buffer answers the place after what it puts. A line is made where it
-// goes: by `push_str` in a string of its own, copied from there, refused events took the program up to four tenths longer, measured; and `write!` may
+// goes: by `push_str` in a string of its own, copied from there, refused events took the program half as long again, measured; and `write!` may
 // answer an error, and no line can fail.
 fn put(buffer: &mut [u8], at: usize, text: &str) -> usize
     requires { at + length text.now ≤ length buffer.old }
